@@ -10,6 +10,7 @@ ghost use Rattle.running_rows.specs.Futex.{Futex, lock_at, grant_at};
 ghost use Rattle.running_rows.specs.Parking.{at_stage, done, IsAboutToSleep, IsCountedIn, StaysCounted, OwesNoMore, IsOwing, MayPark};
 
 use crate::families::Rows;
+use crate::kernel::Kernel;
 use crate::plays::{CallsKernel, ComesBack, Counts, LooksAtGrant, LooksAtLock, LooksForSleepers};
 use crate::rule::OneWorld;
 use crate::running::Running;
@@ -145,7 +146,12 @@ impl<S, V, T, K, R: Rows<S, V, T, K>> Running<S, View<V, T>, K, OneWorld<R>> {
 
     /// Wakes one thread that sleeps at a lock which was given back, where one does.
     #[inline]
-    pub(crate) fn rouse_at_lock(&self, token: &mut Token<S, V, T>, word: usize, sleepers: usize)
+    pub(crate) fn rouse_at_lock<N: Kernel>(
+        &self,
+        token: &mut Token<S, V, T>,
+        word: usize,
+        sleepers: usize,
+    )
         requires own { token.old.table_id ≡ self.now.table.shared.table_id }
         requires there { (word < self.now.table.shared.table_id.words)
             × (sleepers < self.now.table.shared.table_id.words) }
@@ -155,14 +161,19 @@ impl<S, V, T, K, R: Rows<S, V, T, K>> Running<S, View<V, T>, K, OneWorld<R>> {
         ensures done { OwesNoMore token.old.me token.new.me }
     {
         if self.table.shared.load::<LooksForSleepers>(token, sleepers) != 0 {
-            self.call_kernel(token, word);
+            self.call_kernel::<N>(token, word);
         }
     }
 
     /// Wakes the thread that sleeps at a grant which was stored, where one does and the grant is still there: a call
     /// of the kernel costs more than the rest of a release.
     #[inline]
-    pub(crate) fn rouse_at_grant(&self, token: &mut Token<S, V, T>, word: usize, sleepers: usize)
+    pub(crate) fn rouse_at_grant<N: Kernel>(
+        &self,
+        token: &mut Token<S, V, T>,
+        word: usize,
+        sleepers: usize,
+    )
         requires own { token.old.table_id ≡ self.now.table.shared.table_id }
         requires there { (word < self.now.table.shared.table_id.words)
             × (sleepers < self.now.table.shared.table_id.words) }
@@ -176,13 +187,13 @@ impl<S, V, T, K, R: Rows<S, V, T, K>> Running<S, View<V, T>, K, OneWorld<R>> {
             return;
         }
         if shared.load::<LooksForSleepers>(token, word) != 0 {
-            self.call_kernel(token, word);
+            self.call_kernel::<N>(token, word);
         }
     }
 
     /// Calls the kernel, which wakes one thread that sleeps at the word, if there is one, and then says so: a load
     /// more, beside a call of the kernel.
-    fn call_kernel(&self, token: &mut Token<S, V, T>, word: usize)
+    fn call_kernel<N: Kernel>(&self, token: &mut Token<S, V, T>, word: usize)
         requires own { token.old.table_id ≡ self.now.table.shared.table_id }
         requires there { word < self.now.table.shared.table_id.words }
         requires futex { (x : Futex) × R.family.IsFutex (R.family.key self.now.table.shared.key) x × (x.word ≡ word) }
@@ -190,7 +201,7 @@ impl<S, V, T, K, R: Rows<S, V, T, K>> Running<S, View<V, T>, K, OneWorld<R>> {
         ensures own { token.new.table_id ≡ token.old.table_id }
         ensures done { OwesNoMore token.old.me token.new.me }
     {
-        self.table.shared.wake_one(word);
+        N::wake_one(self, word);
         self.table.shared.load::<CallsKernel>(token, word);
     }
 }

@@ -21,6 +21,7 @@ ghost use Rattle.running_rows.specs.Parking.{at_stage, dealing, IsOwing};
 use crate::breaks::{BREAKS_END, FIRST_BREAK, make_break};
 use crate::deadlines::time_left;
 use crate::families::{Here, Rows, Start};
+use crate::kernel::Kernel;
 use crate::plays::{RunsLock, RunsLockOrLook, RunsTry, RunsUnlock};
 use crate::rule::OneWorld;
 use crate::running::Running;
@@ -387,7 +388,7 @@ impl<S, V, T, K, R: Rows<S, V, T, K>> Running<S, View<V, T>, K, OneWorld<R>> {
     /// A row that gives a lock back, and with it the record that was taken last; one thread that sleeps at
     /// the lock is woken.
     #[inline]
-    pub fn give_lock(&self, token: &mut Token<S, V, T>, word: usize, sleepers: usize)
+    pub fn give_lock<N: Kernel>(&self, token: &mut Token<S, V, T>, word: usize, sleepers: usize)
         requires own { (token.old.table_id ≡ self.now.table.shared.table_id)
             × IsSomeones R.family token.old.me.0 }
         requires words { (word < self.now.table.shared.table_id.words)
@@ -400,12 +401,12 @@ impl<S, V, T, K, R: Rows<S, V, T, K>> Running<S, View<V, T>, K, OneWorld<R>> {
         ensures went { runs_unlock R.family
             (step self.now.table.shared.table_id.slots word 0 0 none) token.old.me 0 token.new.me }
     {
-        self.give_lock_from::<Here>(token, word, sleepers);
+        self.give_lock_from::<Here, N>(token, word, sleepers);
     }
 
     /// The same at another row than the one at which the seat stands.
     #[inline]
-    pub fn give_lock_from<A: Start<S, V>>(
+    pub fn give_lock_from<A: Start<S, V>, N: Kernel>(
         &self,
         token: &mut Token<S, V, T>,
         word: usize,
@@ -425,7 +426,7 @@ impl<S, V, T, K, R: Rows<S, V, T, K>> Running<S, View<V, T>, K, OneWorld<R>> {
     {
         self.free::<A>(token, word, sleepers);
         // Looked at after the lock is free: who was counted later finds it so, and doesn't sleep.
-        self.rouse_at_lock(token, word, sleepers);
+        self.rouse_at_lock::<N>(token, word, sleepers);
     }
 
     /// The row alone: the thread owes a look for who sleeps there.

@@ -19,6 +19,7 @@ ghost use Rattle.running_rows.specs.Parking.{IsOwing};
 ghost use Rattle.running_rows.specs.Sleeping.{AreThere, IsShort};
 
 use crate::families::Rows;
+use crate::kernel::Kernel;
 use crate::plays::{PassesGrant, RunsGrant, RunsTakeOrNothing, SetsAside};
 use crate::rule::OneWorld;
 use crate::running::Running;
@@ -234,7 +235,13 @@ impl<S, V, T, K, R: Rows<S, V, T, K>> Running<S, View<V, T>, K, OneWorld<R>> {
 
     /// A row that stores a grant; the thread that sleeps until then is woken.
     #[inline]
-    pub fn grant(&self, token: &mut Token<S, V, T>, word: usize, asleep: usize, units: u64)
+    pub fn grant<N: Kernel>(
+        &self,
+        token: &mut Token<S, V, T>,
+        word: usize,
+        asleep: usize,
+        units: u64,
+    )
         requires own { (token.old.table_id ≡ self.now.table.shared.table_id)
             × IsSomeones R.family token.old.me.0 }
         requires words { (word < self.now.table.shared.table_id.words)
@@ -249,7 +256,7 @@ impl<S, V, T, K, R: Rows<S, V, T, K>> Running<S, View<V, T>, K, OneWorld<R>> {
     {
         self.store_grant(token, word, asleep, units);
         // Looked at after the grant is stored: who was counted later finds it, and doesn't sleep.
-        self.rouse_at_grant(token, word, asleep);
+        self.rouse_at_grant::<N>(token, word, asleep);
     }
 
     /// The row alone: the thread owes a look for who sleeps there.
