@@ -16,6 +16,7 @@ use crate::many_seat::OwingMany;
 use crate::seat::{Owing, Seat, Sleeping};
 use crate::sema_table::SemaTable;
 use crate::waking_many::WokenSeats;
+use running_rows::{Futexes, Kernel};
 use step_table::{Acquire, AcquireRow, ParkedRow, Place, Release};
 use waiters::CounterId;
 
@@ -29,17 +30,49 @@ impl SemaTable {
         ensures caller { MatchResult result (λ entered. JoinsQueue seat counter lifo entered)
             (λ refused. StandsOn seat refused) }
     {
+        self.try_enter_with::<Futexes>(seat, counter, lifo)
+    }
+
+    /// The same, where threads sleep, or none does.
+    pub(crate) fn try_enter_with<N: Kernel>(
+        &self,
+        seat: Seat,
+        counter: CounterId,
+        lifo: bool,
+    ) -> Result<Entered, Seat>
+        requires { (seat.table ≡ self.now) × (counter < length self.now.setting.starts) }
+        ensures rows { MatchResult result
+            (λ entered. IsEntered seat (acquire_of counter lifo) (Acquiring (acquire_of counter lifo) A3) entered)
+            (λ refused. FindsHeld seat counter refused) }
+        ensures caller { MatchResult result (λ entered. JoinsQueue seat counter lifo entered)
+            (λ refused. StandsOn seat refused) }
+    {
         let Seat { mut token, numbers } = seat;
         let call = Acquire { counter, lifo };
         let place = Place::Acquiring(call, AcquireRow::A3);
         if !self.try_lock(&mut token, counter, &place) {
             return Err(Seat { token, numbers });
         }
-        Ok(self.enter_locked(token, numbers, &call))
+        Ok(self.enter_locked::<N>(token, numbers, &call))
     }
 
     /// As `wake`; where the root's lock stayed held the seat comes back as it stood, and still owes.
     pub fn try_wake(&self, owing: Owing, handoff: bool) -> Result<(Seat, Wake), Owing>
+        requires { owing.table ≡ self.now }
+        ensures rows { MatchResult result (λ done. IsWakened owing handoff done.0 done.1)
+            (λ refused. StillOwes owing refused) }
+        ensures caller { MatchResult result (λ done. WakesFirst owing handoff done.0 done.1)
+            (λ refused. StandsOn owing refused) }
+    {
+        self.try_wake_with::<Futexes>(owing, handoff)
+    }
+
+    /// The same, where threads sleep, or none does.
+    pub(crate) fn try_wake_with<N: Kernel>(
+        &self,
+        owing: Owing,
+        handoff: bool,
+    ) -> Result<(Seat, Wake), Owing>
         requires { owing.table ≡ self.now }
         ensures rows { MatchResult result (λ done. IsWakened owing handoff done.0 done.1)
             (λ refused. StillOwes owing refused) }
@@ -59,12 +92,26 @@ impl SemaTable {
                 counter,
             });
         }
-        Ok(self.wake_locked(token, numbers, &call))
+        Ok(self.wake_locked::<N>(token, numbers, &call))
     }
 
     /// As `wake_some`, and answers the seats that it woke; where the root's lock stayed held the seat comes
     /// back as it stood, and still owes.
     pub fn try_wake_some(&self, owing: OwingMany) -> Result<(Seat, WokenSeats), OwingMany>
+        requires { owing.table ≡ self.now }
+        ensures rows { MatchResult result (λ done. IsWokenSeats owing done.0 done.1.items)
+            (λ refused. StillOwesMany owing refused) }
+        ensures caller { MatchResult result (λ done. WakesThese owing done.0 done.1.items)
+            (λ refused. StandsOn owing refused) }
+    {
+        self.try_wake_some_with::<Futexes>(owing)
+    }
+
+    /// The same, where threads sleep, or none does.
+    pub(crate) fn try_wake_some_with<N: Kernel>(
+        &self,
+        owing: OwingMany,
+    ) -> Result<(Seat, WokenSeats), OwingMany>
         requires { owing.table ≡ self.now }
         ensures rows { MatchResult result (λ done. IsWokenSeats owing done.0 done.1.items)
             (λ refused. StillOwesMany owing refused) }
@@ -84,12 +131,23 @@ impl SemaTable {
             });
         }
         let mut hand = WokenSeats::new();
-        let seat = self.wake_some_locked(token, numbers, &call, &mut hand);
+        let seat = self.wake_some_locked::<N>(token, numbers, &call, &mut hand);
         Ok((seat, hand))
     }
 
     /// As `leave`; where the root's lock stayed held the seat comes back asleep, as it was.
     pub fn try_leave(&self, sleeping: Sleeping) -> Result<GaveUp, Sleeping>
+        requires { sleeping.table ≡ self.now }
+        ensures rows { MatchResult result (λ gave_up. Leaves sleeping gave_up)
+            (λ refused. StillParked sleeping refused) }
+        ensures caller { MatchResult result (λ gave_up. GivesUp sleeping gave_up)
+            (λ refused. StandsOn sleeping refused) }
+    {
+        self.try_leave_with::<Futexes>(sleeping)
+    }
+
+    /// The same, where threads sleep, or none does.
+    pub(crate) fn try_leave_with<N: Kernel>(&self, sleeping: Sleeping) -> Result<GaveUp, Sleeping>
         requires { sleeping.table ≡ self.now }
         ensures rows { MatchResult result (λ gave_up. Leaves sleeping gave_up)
             (λ refused. StillParked sleeping refused) }
@@ -115,6 +173,6 @@ impl SemaTable {
                 turn,
             });
         }
-        Ok(self.leave_locked(token, numbers, &call, turn))
+        Ok(self.leave_locked::<N>(token, numbers, &call, turn))
     }
 }

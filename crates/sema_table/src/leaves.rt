@@ -18,7 +18,7 @@ use crate::answers::{GaveUp, Polled};
 use crate::rows::{AtStay, Token};
 use crate::seat::{Leaver, Numbers, Seat, Sleeping};
 use crate::sema_table::SemaTable;
-use running_rows::Here;
+use running_rows::{Futexes, Here, Kernel};
 use std::sync::Wait;
 use step_table::{Acquire, AcquireRow, ParkedRow, Place};
 use waiters::SeatId;
@@ -71,7 +71,7 @@ impl SemaTable {
         } = asleep;
         let place = Place::Acquiring(call, AcquireRow::Parked(turn, ParkedRow::D2));
         self.lock(rt, &mut token, call.counter, &place);
-        self.leave_locked(token, numbers, &call, turn)
+        self.leave_locked::<Futexes>(token, numbers, &call, turn)
     }
 
     /// The look and the lock of `leave`, for a caller that has to do more before the wait leaves: the seat has
@@ -130,7 +130,7 @@ impl SemaTable {
                 turn,
             });
         }
-        self.unlock_coming(&mut token, call, turn);
+        self.unlock_coming::<Futexes>(&mut token, call, turn);
         Err(GaveUp::Coming(Sleeping {
             token,
             numbers,
@@ -155,7 +155,7 @@ impl SemaTable {
         if !withdrew {
             unreachable!()
         }
-        self.unlock_left(&mut token, &call);
+        self.unlock_left::<Futexes>(&mut token, &call);
         let numbers = Numbers {
             left: numbers.left - 1,
             withdrawn: numbers.withdrawn + 1,
@@ -186,7 +186,7 @@ impl SemaTable {
     }
 
     /// The rows after D2, up to the one that gives the lock back.
-    pub(crate) fn leave_locked(
+    pub(crate) fn leave_locked<N: Kernel>(
         &self,
         token: Token,
         numbers: Numbers,
@@ -201,7 +201,7 @@ impl SemaTable {
     {
         let mut token = token;
         if self.withdraw(&mut token, numbers.id(), call, turn) {
-            self.unlock_left(&mut token, call);
+            self.unlock_left::<N>(&mut token, call);
             let numbers = Numbers {
                 left: numbers.left - 1,
                 withdrawn: numbers.withdrawn + 1,
@@ -209,7 +209,7 @@ impl SemaTable {
             };
             return GaveUp::Left(Seat { token, numbers });
         }
-        self.unlock_coming(&mut token, call, turn);
+        self.unlock_coming::<N>(&mut token, call, turn);
         GaveUp::Coming(Sleeping {
             token,
             numbers,
@@ -243,13 +243,13 @@ impl SemaTable {
     }
 
     /// D4.
-    fn unlock_left(&self, token: &mut Token, call: &Acquire)
+    fn unlock_left<N: Kernel>(&self, token: &mut Token, call: &Acquire)
         requires { Holds self.now token.old (Acquiring call.now D4) }
         ensures { Moves token.old (Acquiring call.now D4) token.new Rest × (token.new.me.1 ≡ []) }
     {
         let word = self.lock_word(call.counter);
         let sleepers = self.sleepers_word(call.counter);
-        self.words.give_lock(token, word, sleepers);
+        self.words.give_lock::<N>(token, word, sleepers);
     }
 
     /// D5 where D3 might be run.
@@ -260,17 +260,18 @@ impl SemaTable {
     {
         let word = self.lock_word(call.counter);
         let sleepers = self.sleepers_word(call.counter);
-        self.words.give_lock_from::<AtStay>(token, word, sleepers);
+        self.words
+            .give_lock_from::<AtStay, Futexes>(token, word, sleepers);
     }
 
     /// D5. Asleep again, and not at rest: the grant would be stored for the seat's next sleep.
-    fn unlock_coming(&self, token: &mut Token, call: &Acquire, turn: u64)
+    fn unlock_coming<N: Kernel>(&self, token: &mut Token, call: &Acquire, turn: u64)
         requires { Holds self.now token.old (Acquiring call.now (Parked turn D5)) }
         ensures { Moves token.old (Acquiring call.now (Parked turn D5)) token.new
             (Acquiring call.now (Parked turn P)) × (token.new.me.1 ≡ []) }
     {
         let word = self.lock_word(call.counter);
         let sleepers = self.sleepers_word(call.counter);
-        self.words.give_lock(token, word, sleepers);
+        self.words.give_lock::<N>(token, word, sleepers);
     }
 }

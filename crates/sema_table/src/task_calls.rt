@@ -13,6 +13,7 @@ use crate::task_answers::{
 use crate::task_seat::{Stage, TaskSeat};
 use crate::tasks::TaskTable;
 use crate::waking_many::WokenSeats;
+use running_rows::NoThreads;
 use waiters::CounterId;
 
 impl TaskTable {
@@ -57,7 +58,10 @@ impl TaskTable {
             return (seat, Err(why));
         }
         let TaskSeat { token, numbers, .. } = seat;
-        match self.table.try_enter(Seat { token, numbers }, counter, lifo) {
+        match self
+            .table
+            .try_enter_with::<NoThreads>(Seat { token, numbers }, counter, lifo)
+        {
             Ok(Entered::Taken(seat)) => (TaskSeat::resting(seat), Ok(TaskEntered::Taken)),
             Ok(Entered::Asleep(asleep)) => (TaskSeat::sleeping(asleep), Ok(TaskEntered::Asleep)),
             Err(seat) => (TaskSeat::resting(seat), Err(TaskRefused::Busy)),
@@ -103,7 +107,7 @@ impl TaskTable {
             call,
             turn,
         };
-        match self.table.try_leave(asleep) {
+        match self.table.try_leave_with::<NoThreads>(asleep) {
             Ok(GaveUp::Left(seat)) => (TaskSeat::resting(seat), Ok(TaskGaveUp::Left)),
             Ok(GaveUp::Coming(asleep)) => (TaskSeat::sleeping(asleep), Ok(TaskGaveUp::Coming)),
             Ok(GaveUp::Woken(woken)) => (TaskSeat::woken(woken), Ok(TaskGaveUp::Woken)),
@@ -151,7 +155,7 @@ impl TaskTable {
             numbers,
             counter,
         };
-        match self.table.try_wake(owing, handoff) {
+        match self.table.try_wake_with::<NoThreads>(owing, handoff) {
             Ok((seat, wake)) => (TaskSeat::resting(seat), Ok(wake)),
             Err(owing) => (TaskSeat::owing(owing), Err(TaskRefused::Busy)),
         }
@@ -172,7 +176,7 @@ impl TaskTable {
             numbers,
             call,
         };
-        match self.table.try_wake_some(owing) {
+        match self.table.try_wake_some_with::<NoThreads>(owing) {
             Ok((seat, seats)) => (TaskSeat::resting(seat), Ok(seats)),
             Err(owing) => (TaskSeat::owing_many(owing), Err(TaskRefused::Busy)),
         }

@@ -16,7 +16,7 @@ use crate::answers::{Tried, Wake};
 use crate::rows::Token;
 use crate::seat::{Numbers, Owing, Seat};
 use crate::sema_table::{MOST_TRIES, SemaTable, counter_word};
-use running_rows::Here;
+use running_rows::{Futexes, Here, Kernel};
 use std::sync::Wait;
 use step_table::{Place, Release, ReleaseRow};
 use waiters::{CounterId, WaitId};
@@ -57,7 +57,7 @@ impl SemaTable {
         let mut token = token;
         let place = Place::Releasing(Release { counter, handoff }, ReleaseRow::R3);
         self.lock(rt, &mut token, counter, &place);
-        self.wake_locked(token, numbers, &Release { counter, handoff })
+        self.wake_locked::<Futexes>(token, numbers, &Release { counter, handoff })
     }
 
     /// R3 where the root's lock is found free within some tries, and else a look that found it held.
@@ -71,19 +71,24 @@ impl SemaTable {
     }
 
     /// The rows from R4 on.
-    pub(crate) fn wake_locked(&self, token: Token, numbers: Numbers, call: &Release) -> (Seat, Wake)
+    pub(crate) fn wake_locked<N: Kernel>(
+        &self,
+        token: Token,
+        numbers: Numbers,
+        call: &Release,
+    ) -> (Seat, Wake)
         requires { (s : Token) × HasLocked self.now s numbers (Releasing call.now R3) token }
         ensures { (s : Token) → HasLocked self.now s numbers (Releasing call.now R3) token
             → WakesFrom (seat_of s numbers) call.now result.0 result.1 }
     {
         let mut token = token;
         let first = self.take_first(&mut token, call);
-        self.unlock_released(&mut token, call);
+        self.unlock_released::<N>(&mut token, call);
         let Some(id) = first else {
             return (Seat { token, numbers }, Wake::Nobody);
         };
         let handed = self.take_for(&mut token, call, &id);
-        self.grant(&mut token, call, &id, handed);
+        self.grant::<N>(&mut token, call, &id, handed);
         if handed {
             return (Seat { token, numbers }, Wake::Handed(id));
         }
@@ -145,14 +150,14 @@ impl SemaTable {
     }
 
     /// R6. Given back before the waiter is told: told earlier, it would run into the lock that is still held.
-    fn unlock_released(&self, token: &mut Token, call: &Release)
+    fn unlock_released<N: Kernel>(&self, token: &mut Token, call: &Release)
         requires { Holds self.now token.old (Releasing call.now R6) }
         ensures { Moves token.old (Releasing call.now R6) token.new (unlocked token.old call.now)
             × (token.new.me.1 ≡ []) }
     {
         let word = self.lock_word(call.counter);
         let sleepers = self.sleepers_word(call.counter);
-        self.words.give_lock(token, word, sleepers);
+        self.words.give_lock::<N>(token, word, sleepers);
     }
 
     /// R7 and R8 of a release with handoff, and else nothing: whether a unit was taken for the wait in hand.
@@ -219,7 +224,7 @@ impl SemaTable {
 
     /// R9 where a unit was taken for the wait in hand, and else R10: its seat is granted, and woken where its
     /// thread sleeps.
-    fn grant(&self, token: &mut Token, call: &Release, id: &WaitId, handed: bool)
+    fn grant<N: Kernel>(&self, token: &mut Token, call: &Release, id: &WaitId, handed: bool)
         requires seat { Stands self.now token.old (granting call.now handed)
             × (token.old.me.0.own.knows.hand ≡ id.now ∷ []) }
         requires there { id.now.seat < self.now.setting.seats }
@@ -229,7 +234,8 @@ impl SemaTable {
         let seat = id.seat.number();
         let word = self.grant_word(seat);
         let asleep = self.asleep_word(seat);
-        self.words.grant(token, word, asleep, granted_units(handed));
+        self.words
+            .grant::<N>(token, word, asleep, granted_units(handed));
     }
 }
 

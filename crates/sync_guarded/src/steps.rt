@@ -6,7 +6,7 @@ ghost use Rattle.sync_guarded.specs.Calls.{HasLocked, HasFoundHeld, HasUnlocked,
 
 use crate::guarded::{Guarded, LOCK, SLEEPERS, VALUE};
 use crate::rows::GuardToken;
-use running_rows::{Here, Running};
+use running_rows::{Futexes, Here, Running};
 use std::sync::Wait;
 use std::time::{Clock, Instant};
 

@@ -14,7 +14,7 @@ use Rattle.notify_list.proofs.Callers.{enters_at_once, enters_queued}
 use Rattle.notify_list.proofs.notify_list.NotifyList.enter.Goals as goal
 
 pub load-notified-requires : goal.load-notified-requires
-load-notified-requires c =
+load-notified-requires g c =
     let x = c.self.inside in let s = c.requires.0 in let may = c.requires.1 in let n : ℕ = c.args.number in let t = c.args.token in
     let at = may.locked.walked.list_is ∙ may.list_is ∙ sym c.self.view_is in (
       omega arith,
@@ -29,7 +29,7 @@ load-notified-requires c =
     )
 
 pub give_lock-requires : goal.give_lock-requires
-give_lock-requires c =
+give_lock-requires g c =
     let x = c.self.inside in let s = c.requires.0 in let may = c.requires.1 in let n : ℕ = c.args.number in
     let word : ℕ = c.args.ticket in let H = may.holding in let t = c.args.token in let L = may.locked in
     let u = c.load-notified.new.token in let v : ℕ = c.load-notified.result in let E = c.load-notified.ensures in
@@ -51,13 +51,13 @@ give_lock-requires c =
     )
 
 pub invariant_of-result : goal.invariant_of-result
-invariant_of-result c =
+invariant_of-result g c =
     let s = c.requires.0 in let may = c.requires.1 in let E = c.load-notified.ensures in let F = c.give_lock.ensures in
     seat_at_once s c.args.number c.args.ticket may.holding c.args.token may.locked c.load-notified.new.token
     c.load-notified.result E.went E.own c.give_lock.new.token (sym c.less.ensures.less ∙ c.if-less.true) F.went F.own
 
 pub returns-then-less-clause-rows : goal.returns-then-less-clause-rows
-returns-then-less-clause-rows c s may =
+returns-then-less-clause-rows g c s may =
     let E = c.load-notified.ensures in let F = c.give_lock.ensures in let found = sym c.less.ensures.less ∙ c.if-less.true in (
       waited_at_once s c.args.number c.args.ticket may.holding c.args.token may.locked c.load-notified.new.token
           c.load-notified.result E.went E.own c.give_lock.new.token found F.went F.own,
@@ -66,18 +66,18 @@ returns-then-less-clause-rows c s may =
     )
 
 pub returns-then-less-clause-caller : goal.returns-then-less-clause-caller
-returns-then-less-clause-caller c s may =
+returns-then-less-clause-caller g c s may =
     enters_at_once _ _ (is_sound c.give_lock.new.token c.args.number (invariant_of-result c).token_is) (returns-then-less-clause-rows c s may)
 
 pub may_leave-may_leave-requires : goal.may_leave-may_leave-requires
-may_leave-may_leave-requires c =
+may_leave-may_leave-requires g c =
     let s = c.requires.0 in let may = c.requires.1 in let n : ℕ = c.args.number in
     let word : ℕ = c.args.ticket in let H = may.holding in let t = c.args.token in let L = may.locked in
     let u = c.load-notified.new.token in let v : ℕ = c.load-notified.result in let E = c.load-notified.ensures in
     ((λ i. record { id = E.own i; setting = E.went.0.same.1 i }) ∙ L.walked.list_is ∙ may.list_is, record_looked s n word H t L u v E.went E.own)
 
 pub insert-requires : goal.insert-requires
-insert-requires c =
+insert-requires g c =
     let s = c.requires.0 in let may = c.requires.1 in let n : ℕ = c.args.number in
     let word : ℕ = c.args.ticket in let H = may.holding in let t = c.args.token in let L = may.locked in
     let u = c.load-notified.new.token in let v : ℕ = c.load-notified.result in let E = c.load-notified.ensures in
@@ -88,7 +88,7 @@ insert-requires c =
     }
 
 pub give_lock-requires-2 : goal.give_lock-requires-2
-give_lock-requires-2 c =
+give_lock-requires-2 g c =
     let x = c.self.inside in let s = c.requires.0 in let may = c.requires.1 in let n : ℕ = c.args.number in
     let word : ℕ = c.args.ticket in let H = may.holding in let t = c.args.token in let L = may.locked in
     let u = c.load-notified.new.token in let v : ℕ = c.load-notified.result in let E = c.load-notified.ensures in
@@ -117,7 +117,7 @@ give_lock-requires-2 c =
     )
 
 pub invariant_of-result-2 : goal.invariant_of-result-2
-invariant_of-result-2 c =
+invariant_of-result-2 g c =
     let s = c.requires.0 in let may = c.requires.1 in let n : ℕ = c.args.number in
     let word : ℕ = c.args.ticket in let H = may.holding in let t = c.args.token in let L = may.locked in
     let u = c.load-notified.new.token in let v : ℕ = c.load-notified.result in let E = c.load-notified.ensures in
@@ -134,7 +134,7 @@ invariant_of-result-2 c =
     c.may_leave-may_leave.result M.few (λ e low. M.early H.ticket.number e low known) (λ e. M.late H.ticket.number e known)
 
 pub returns-clause-rows : goal.returns-clause-rows
-returns-clause-rows c s may =
+returns-clause-rows g c s may =
     let n : ℕ = c.args.number in
     let word : ℕ = c.args.ticket in let H = may.holding in let t = c.args.token in let L = may.locked in
     let u = c.load-notified.new.token in let v : ℕ = c.load-notified.result in let E = c.load-notified.ensures in
@@ -146,5 +146,5 @@ returns-clause-rows c s may =
     queued_it s n word H t L u v E.went E.own c.insert.new.token c.give_lock-2.new.token no_it I F.went F.own
 
 pub returns-clause-caller : goal.returns-clause-caller
-returns-clause-caller c s may =
+returns-clause-caller g c s may =
     enters_queued _ _ (is_sound c.give_lock-2.new.token c.args.number (invariant_of-result-2 c).token_is) (returns-clause-rows c s may)

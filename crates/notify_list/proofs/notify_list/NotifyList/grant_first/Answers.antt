@@ -8,12 +8,12 @@ use Rattle.notify_list.proofs.Wakening.{stands8, waiter_there, woken_first, stor
 use Rattle.notify_list.proofs.notify_list.NotifyList.grant_first.Goals as goal
 
 pub asleep_word-requires : goal.asleep_word-requires
-asleep_word-requires c =
+asleep_word-requires g c =
     let r = c.requires in let w : Wait = r.1 in let may = r.3 in let low = waiter_there c.args.self.now c.args.token.now r.0 w r.2 may r.4 in
     let mine = ap (λ (y : ListModel). y.setting.seats) may.list_is in let same = r.5 in omega (arith, low, mine, same)
 
 pub grant-requires : goal.grant-requires
-grant-requires c =
+grant-requires g c =
     let x = c.self.inside in let s = c.args.token.now in let l = c.args.self.now in let r = c.requires in let w : Wait = r.1 in let may = r.3 in
     let low = waiter_there l s r.0 w r.2 may r.4 in let at = may.list_is ∙ sym c.self.view_is in let mine = ap (λ (y : ListModel). y.setting.seats) at in
     let same = r.5 in let word = c.grant_word.ensures in let A = c.asleep_word.ensures in
@@ -33,9 +33,9 @@ grant-requires c =
     )
 
 pub returns-clause-rows : goal.returns-clause-rows
-returns-clause-rows c h w rest may hand = let E = c.grant.ensures in
+returns-clause-rows g c h w rest may hand = let E = c.grant.ensures in
     woken_first c.args.self.now c.args.token.now h w rest may hand c.grant.new.token E.went.0 (E.went.1, E.went.3) E.own
 
 pub returns-clause-stored : goal.returns-clause-stored
-returns-clause-stored c = let E = c.grant.ensures in
+returns-clause-stored g c = let E = c.grant.ensures in
     stored_one c.args.token.now c.grant.new.token c.grant_word.result c.args.seat E.went.0 E.went.1 E.went.2 c.grant_word.ensures

@@ -17,7 +17,7 @@ use Rattle.notify_list.proofs.Granting.{gives_out, edited_by, stands7, stands8, 
 use Rattle.notify_list.proofs.notify_list.NotifyList.grant_passed.Goals as goal
 
 pub store-requires : goal.store-requires
-store-requires c =
+store-requires g c =
     let x = c.self.inside in let s = c.args.token.now in let may = c.requires.1 in let at = may.list_is ∙ sym c.self.view_is in (
       omega arith,
       (
@@ -41,7 +41,7 @@ store-requires c =
     )
 
 pub remove-waiter-requires : goal.remove-waiter-requires
-remove-waiter-requires c =
+remove-waiter-requires g c =
     let s = c.args.token.now in let l = c.args.self.now in let h : ℕ = c.requires.0 in
     let k : ℕ = c.args.ticket in let may = c.requires.1 in let t = c.store.new.token in let E = c.store.ensures in let n : ℕ = E.went.0 in (
       (λ i. record { id = E.own i; setting = E.went.1.0.same.1 i }) ∙ may.list_is,
@@ -49,7 +49,7 @@ remove-waiter-requires c =
     )
 
 pub give_lock-requires : goal.give_lock-requires
-give_lock-requires c =
+give_lock-requires g c =
     let x = c.self.inside in let s = c.args.token.now in let l = c.args.self.now in let h : ℕ = c.requires.0 in
     let k : ℕ = c.args.ticket in let may = c.requires.1 in
     let t = c.store.new.token in let E = c.store.ensures in let n : ℕ = E.went.0 in
@@ -70,7 +70,7 @@ give_lock-requires c =
     )
 
 pub asleep_word-requires : goal.asleep_word-requires
-asleep_word-requires c =
+asleep_word-requires g c =
     let s = c.args.token.now in let l = c.args.self.now in let h : ℕ = c.requires.0 in let k : ℕ = c.args.ticket in let may = c.requires.1 in
     let t = c.store.new.token in let E = c.store.ensures in let n : ℕ = E.went.0 in let y = c.remove-waiter.new.token in
     let u = c.give_lock.new.token in let F = c.give_lock.ensures in let found = c.in-Some.ensures in let w : Wait = found.0 in
@@ -79,7 +79,7 @@ asleep_word-requires c =
     omega (arith, low, mine, same, from)
 
 pub grant-requires : goal.grant-requires
-grant-requires c =
+grant-requires g c =
     let x = c.self.inside in let s = c.args.token.now in let l = c.args.self.now in let h : ℕ = c.requires.0 in
     let k : ℕ = c.args.ticket in let may = c.requires.1 in
     let t = c.store.new.token in let E = c.store.ensures in let n : ℕ = E.went.0 in let y = c.remove-waiter.new.token in
@@ -107,7 +107,7 @@ grant-requires c =
     )
 
 pub returns-in-Some-clause-rows : goal.returns-in-Some-clause-rows
-returns-in-Some-clause-rows c h may =
+returns-in-Some-clause-rows g c h may =
     let s = c.args.token.now in let l = c.args.self.now in let k : ℕ = c.args.ticket in
     let t = c.store.new.token in let E = c.store.ensures in let n : ℕ = E.went.0 in let y = c.remove-waiter.new.token in
     let u = c.give_lock.new.token in let F = c.give_lock.ensures in
@@ -115,7 +115,7 @@ returns-in-Some-clause-rows c h may =
     ended_some l s h k c.args.next may t n E.went.1 E.own y u (Some c.in-Some.seat) found F.went F.own w found.1 c.grant.new.token G.went.0 (G.went.1, G.went.3) G.own
 
 pub returns-in_default-clause-rows : goal.returns-in_default-clause-rows
-returns-in_default-clause-rows c h may =
+returns-in_default-clause-rows g c h may =
     let s = c.args.token.now in let l = c.args.self.now in let k : ℕ = c.args.ticket in
     let t = c.store.new.token in let E = c.store.ensures in let n : ℕ = E.went.0 in let y = c.remove-waiter.new.token in
     let u = c.give_lock.new.token in let F = c.give_lock.ensures in
@@ -123,7 +123,7 @@ returns-in_default-clause-rows c h may =
     ended_none l s h k c.args.next may t n E.went.1 E.own y u None found F.went F.own found.0
 
 pub returns-in-Some-clause-wait : goal.returns-in-Some-clause-wait
-returns-in-Some-clause-wait c =
+returns-in-Some-clause-wait g c =
     let s = c.args.token.now in let l = c.args.self.now in let h : ℕ = c.requires.0 in let k : ℕ = c.args.ticket in let may = c.requires.1 in
     let t = c.store.new.token in let E = c.store.ensures in let n : ℕ = E.went.0 in let y = c.remove-waiter.new.token in
     let u = c.give_lock.new.token in let F = c.give_lock.ensures in
@@ -140,7 +140,7 @@ returns-in-Some-clause-wait c =
     )
 
 pub returns-in_default-clause-wait : goal.returns-in_default-clause-wait
-returns-in_default-clause-wait c =
+returns-in_default-clause-wait g c =
     let s = c.args.token.now in let l = c.args.self.now in let h : ℕ = c.requires.0 in let k : ℕ = c.args.ticket in let may = c.requires.1 in
     let t = c.store.new.token in let E = c.store.ensures in let n : ℕ = E.went.0 in let y = c.remove-waiter.new.token in
     let u = c.give_lock.new.token in let F = c.give_lock.ensures in

@@ -7,12 +7,12 @@ use Rattle.notify_list.proofs.Leaving.{list1, record1, may_forgo, list4, gives4,
 use Rattle.notify_list.proofs.notify_list.NotifyList.leave_locked.Goals as goal
 
 pub remove_own-requires : goal.remove_own-requires
-remove_own-requires c =
+remove_own-requires g c =
     let h = c.requires.1 in let s = c.requires.0 in let t = c.args.token in let n : ℕ = c.args.number in
     (list1 c.args.self.now s n h.parked t h.list_is h.took h.own, (guarded_of t, record1 c.args.self.now s n h.parked t h.list_is h.took h.own))
 
 pub forgo-requires : goal.forgo-requires
-forgo-requires c =
+forgo-requires g c =
     let l = c.args.self.now in let s = c.requires.0 in let h = c.requires.1 in let t = c.args.token in let n : ℕ = c.args.number in let u = c.remove_own.new.token in
     let word : ℕ = c.in-Some.ticket in
     let out : OwnOut t (guarded_of t) n (Some word) u
@@ -20,7 +20,7 @@ forgo-requires c =
     (t, may_forgo l s n h.parked t h.list_is h.took h.own u word out)
 
 pub give_lock-requires : goal.give_lock-requires
-give_lock-requires c =
+give_lock-requires g c =
     let x = c.self.inside in
     let l = c.args.self.now in let s = c.requires.0 in let h = c.requires.1 in let t = c.args.token in let n : ℕ = c.args.number in let u = c.remove_own.new.token in
     let word : ℕ = c.in-Some.ticket in
@@ -39,7 +39,7 @@ give_lock-requires c =
     )
 
 pub invariant_of-result : goal.invariant_of-result
-invariant_of-result c =
+invariant_of-result g c =
     let l = c.args.self.now in let s = c.requires.0 in let h = c.requires.1 in let t = c.args.token in let n : ℕ = c.args.number in let u = c.remove_own.new.token in
     let word : ℕ = c.in-Some.ticket in
     let out : OwnOut t (guarded_of t) n (Some word) u
@@ -48,7 +48,7 @@ invariant_of-result c =
     seat_left l s n h.parked t h.list_is h.took h.own u word out v F c.give_lock.new.token c.give_lock.ensures.went c.give_lock.ensures.own
 
 pub returns-in-Some-clause-rows : goal.returns-in-Some-clause-rows
-returns-in-Some-clause-rows c s h =
+returns-in-Some-clause-rows g c s h =
     let l = c.args.self.now in let t = c.args.token in let n : ℕ = c.args.number in let u = c.remove_own.new.token in
     let word : ℕ = c.in-Some.ticket in
     let out : OwnOut t (guarded_of t) n (Some word) u
@@ -57,10 +57,10 @@ returns-in-Some-clause-rows c s h =
     left l s n h.parked t h.list_is h.took h.own u word out v F c.give_lock.new.token c.give_lock.ensures.went c.give_lock.ensures.own
 
 pub returns-in-Some-clause-lawful : goal.returns-in-Some-clause-lawful
-returns-in-Some-clause-lawful c = (is_sound c.give_lock.new.token c.args.number (invariant_of-result c).token_is).lawful
+returns-in-Some-clause-lawful g c = (is_sound c.give_lock.new.token c.args.number (invariant_of-result c).token_is).lawful
 
 pub give_lock-requires-2 : goal.give_lock-requires-2
-give_lock-requires-2 c =
+give_lock-requires-2 g c =
     let x = c.self.inside in
     let l = c.args.self.now in let s = c.requires.0 in let h = c.requires.1 in let t = c.args.token in let n : ℕ = c.args.number in let u = c.remove_own.new.token in
     let out : OwnOut t (guarded_of t) n None u
@@ -77,18 +77,18 @@ give_lock-requires-2 c =
     )
 
 pub invariant_of-result-2 : goal.invariant_of-result-2
-invariant_of-result-2 c =
+invariant_of-result-2 g c =
     let l = c.args.self.now in let s = c.requires.0 in let h = c.requires.1 in let t = c.args.token in let n : ℕ = c.args.number in let u = c.remove_own.new.token in
     let out : OwnOut t (guarded_of t) n None u
     = subst (λ k. OwnOut t (guarded_of t) k None u) c.new.ensures (c.in_default.ensures (guarded_of t) (record1 l s n h.parked t h.list_is h.took h.own)) in
     parked_again l s n h.parked t h.list_is h.took h.own u out c.give_lock-2.new.token c.give_lock-2.ensures.went c.give_lock-2.ensures.own
 
 pub returns-clause-rows : goal.returns-clause-rows
-returns-clause-rows c s h =
+returns-clause-rows g c s h =
     let l = c.args.self.now in let t = c.args.token in let n : ℕ = c.args.number in let u = c.remove_own.new.token in
     let out : OwnOut t (guarded_of t) n None u
     = subst (λ k. OwnOut t (guarded_of t) k None u) c.new.ensures (c.in_default.ensures (guarded_of t) (record1 l s n h.parked t h.list_is h.took h.own)) in
     coming l s n h.parked t h.list_is h.took h.own u out c.give_lock-2.new.token c.give_lock-2.ensures.went c.give_lock-2.ensures.own
 
 pub returns-clause-lawful : goal.returns-clause-lawful
-returns-clause-lawful c = (is_sound c.give_lock-2.new.token c.args.number (invariant_of-result-2 c).token_is).lawful
+returns-clause-lawful g c = (is_sound c.give_lock-2.new.token c.args.number (invariant_of-result-2 c).token_is).lawful

@@ -9,7 +9,7 @@ use Rattle.sema_table.proofs.Granting.{granted, grants_at}
 use Rattle.sema_table.proofs.sema_table.SemaTable.grant.Goals as goal
 
 pub grant-requires : goal.grant-requires
-grant-requires c =
+grant-requires g c =
     let s = c.args.token.now in let a = c.args.call.now in let r = c.requires.seat.0 in let at = r.table_is ∙ sym c.self.view_is in
     let first : waiter s.me.0.own.number s.me.0.own.knows.hand ≡ c.args.id.now.seat = ap (waiter s.me.0.own.number) c.requires.seat.1 in
     let there : waiter s.me.0.own.number s.me.0.own.knows.hand < s.me.0.own.knows.setting.seats = subst
@@ -34,8 +34,8 @@ grant-requires c =
     )
 
 pub returns-clause-granted : goal.returns-clause-granted
-returns-clause-granted c = let T = c.grant.ensures.went in
+returns-clause-granted g c = let T = c.grant.ensures.went in
     granted c.args.token.now c.grant.new.token c.args.call.now c.args.id.now T.0 T.1 c.grant.ensures.own c.args.handed c.requires.seat.0.place_is
 
 pub returns-clause-slots : goal.returns-clause-slots
-returns-clause-slots c = slots_are c.grant.ensures.went.3
+returns-clause-slots g c = slots_are c.grant.ensures.went.3

@@ -9,7 +9,7 @@ use Rattle.sema_table.proofs.GrantingMany.{granted_first, grants_first}
 use Rattle.sema_table.proofs.sema_table.SemaTable.grant_one.Goals as goal
 
 pub grant-requires : goal.grant-requires
-grant-requires c =
+grant-requires g c =
     let s = c.args.token.now in let a = c.args.call.now in let r = c.requires.seat.0 in let at = r.table_is ∙ sym c.self.view_is in
     let first : waiter s.me.0.own.number s.me.0.own.knows.hand ≡ c.args.seat = c.requires.seat.1 in
     let there : waiter s.me.0.own.number s.me.0.own.knows.hand < s.me.0.own.knows.setting.seats = subst
@@ -33,5 +33,5 @@ grant-requires c =
     )
 
 pub returns : goal.returns
-returns c = let T = c.grant.ensures.went in
+returns g c = let T = c.grant.ensures.went in
     granted_first c.args.token.now c.grant.new.token c.args.call.now T.0 c.requires.seat.0.place_is T.1 c.grant.ensures.own (slots_are T.3)

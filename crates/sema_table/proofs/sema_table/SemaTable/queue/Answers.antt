@@ -37,10 +37,10 @@ use Rattle.sema_table.specs.Walks.{IsLast}
 use Rattle.sema_table.proofs.sema_table.SemaTable.queue.Goals as goal
 
 pub insert-requires : goal.insert-requires
-insert-requires c = let r = c.requires.seat.0 in record { seat = (r.table_is, c.requires.seat.1, c.requires.seat.2); call = r.inside }
+insert-requires g c = let r = c.requires.seat.0 in record { seat = (r.table_is, c.requires.seat.1, c.requires.seat.2); call = r.inside }
 
 pub give_lock-requires : goal.give_lock-requires
-give_lock-requires c =
+give_lock-requires g c =
     let s = c.args.token.now in let v : Known = s.me.0.own.knows in let a = c.args.call.now in let r = c.requires.seat.0 in let z : Setting = v.setting in
     let E = c.insert.ensures in let q : Treap = E.1.0 in
     let m : Me = (s.me.0, (root z a.counter, Root q) ∷ []) in let at = r.table_is ∙ sym c.self.view_is in
@@ -78,7 +78,7 @@ give_lock-requires c =
     )
 
 pub returns : goal.returns
-returns c =
+returns g c =
     let s = c.args.token.now in let v : Known = s.me.0.own.knows in let u = c.give_lock.new.token in let a = c.args.call.now in
     let r = c.requires.seat.0 in let z : Setting = v.setting in
     let E = c.insert.ensures in let is = E.1.1 in

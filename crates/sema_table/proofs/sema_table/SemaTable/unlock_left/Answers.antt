@@ -15,7 +15,7 @@ use Rattle.running_rows.specs.Table.{rest}
 use Rattle.sema_table.proofs.sema_table.SemaTable.unlock_left.Goals as goal
 
 pub give_lock-requires : goal.give_lock-requires
-give_lock-requires c =
+give_lock-requires g c =
     let s = c.args.token.now in let a = c.args.call.now in let r = c.requires.0 in let h = c.requires.1 in let at = r.table_is ∙ sym c.self.view_is in
     let word : address s.me.0.own.knows.setting (Lock a.counter) ≡ c.lock_word-word.result = ap (λ (y : TableModel). address y.setting (Lock a.counter))
     r.table_is ∙ sym c.lock_word-word.ensures.at in
@@ -43,7 +43,7 @@ give_lock-requires c =
     )
 
 pub returns : goal.returns
-returns c =
+returns g c =
     let s = c.args.token.now in let u = c.give_lock.new.token in let a = c.args.call.now in let r = c.requires.0 in
     let X = c.give_lock.ensures.went in let n : ℕ = X.0 in
     let row = ran_from s u (Acquiring a D4) n r.place_is X.1 in

@@ -18,7 +18,7 @@ use Rattle.running_rows.specs.Table.{rest}
 use Rattle.sema_table.proofs.sema_table.SemaTable.unlock_many.Goals as goal
 
 pub give_lock-requires : goal.give_lock-requires
-give_lock-requires c =
+give_lock-requires g c =
     let s = c.args.token.now in let a = c.args.call.now in let r = c.requires.0 in let h = c.requires.1 in let at = r.table_is ∙ sym c.self.view_is in
     let word : address s.me.0.own.knows.setting (Lock a.counter) ≡ c.lock_word-word.result = ap (λ (y : TableModel). address y.setting (Lock a.counter))
     r.table_is ∙ sym c.lock_word-word.ensures.at in
@@ -46,7 +46,7 @@ give_lock-requires c =
     )
 
 pub returns-clause-walked : goal.returns-clause-walked
-returns-clause-walked c =
+returns-clause-walked g c =
     let s = c.args.token.now in let u = c.give_lock.new.token in let a = c.args.call.now in let r = c.requires.0 in
     let X = c.give_lock.ensures.went in let n : ℕ = X.0 in
     let row = ran_from s u (ReleasingMany a M6) n r.place_is X.1 in
@@ -54,10 +54,10 @@ returns-clause-walked c =
     walked_row s u (ReleasingMany a M6) n (to_grant a s.me.0.own.knows.hand, Nothing) row g c.give_lock.ensures.own
 
 pub returns-clause-bare : goal.returns-clause-bare
-returns-clause-bare c = slots_are c.give_lock.ensures.went.3 ∙ ap rest c.requires.1.1
+returns-clause-bare g c = slots_are c.give_lock.ensures.went.3 ∙ ap rest c.requires.1.1
 
 pub returns-clause-there : goal.returns-clause-there
-returns-clause-there c =
+returns-clause-there g c =
     let s = c.args.token.now in let u = c.give_lock.new.token in let a = c.args.call.now in let r = c.requires.0 in
     let X = c.give_lock.ensures.went in let n : ℕ = X.0 in
     subst (λ (y : TableModel). All (λ w. w.seat < y.setting.seats) u.me.0.own.knows.hand) r.table_is

@@ -14,7 +14,7 @@ use Rattle.sema_table.proofs.PickingMany.{leaves_spend}
 use Rattle.sema_table.proofs.sema_table.SemaTable.wake_some_locked.Goals as goal
 
 pub take_waits-requires-clause-seat : goal.take_waits-requires-clause-seat
-take_waits-requires-clause-seat c = let a : ReleaseMany = c.args.call.now in (
+take_waits-requires-clause-seat g c = let a : ReleaseMany = c.args.call.now in (
   (
     stands_after c.args.self.now c.requires.seat.0 c.args.token c.args.numbers (ReleasingMany a M3) (ReleasingMany a M4) [] 0 c.requires.seat.1.token_is c.requires.seat.1.table_is
         c.requires.seat.1.inside c.requires.seat.1.locked.0 refl,
@@ -24,7 +24,7 @@ take_waits-requires-clause-seat c = let a : ReleaseMany = c.args.call.now in (
 )
 
 pub unlock_many-requires : goal.unlock_many-requires
-unlock_many-requires c =
+unlock_many-requires g c =
     let a : ReleaseMany = c.args.call.now in let t1 = c.args.token in let t2 = c.take_waits.new.token in
     let locked = stands_after c.args.self.now c.requires.seat.0 t1 c.args.numbers (ReleasingMany a M3) (ReleasingMany a M4) [] 0 c.requires.seat.1.token_is c.requires.seat.1.table_is
     c.requires.seat.1.inside c.requires.seat.1.locked.0 refl in (
@@ -35,7 +35,7 @@ unlock_many-requires c =
     )
 
 pub grant_all-requires-clause-seat : goal.grant_all-requires-clause-seat
-grant_all-requires-clause-seat c =
+grant_all-requires-clause-seat g c =
     let a : ReleaseMany = c.args.call.now in let t1 = c.args.token in let t2 = c.take_waits.new.token in
     let locked = stands_after c.args.self.now c.requires.seat.0 t1 c.args.numbers (ReleasingMany a M3) (ReleasingMany a M4) [] 0 c.requires.seat.1.token_is c.requires.seat.1.table_is
     c.requires.seat.1.inside c.requires.seat.1.locked.0 refl in
@@ -45,13 +45,13 @@ grant_all-requires-clause-seat c =
     may_grant c.args.self.now t2 c.unlock_many.new.token a full c.unlock_many.ensures.walked
 
 pub invariant_of-result : goal.invariant_of-result
-invariant_of-result c =
+invariant_of-result g c =
     let s = c.requires.seat.0 in let a : ReleaseMany = c.args.call.now in let t3 = c.unlock_many.new.token in let n = c.args.numbers in let is = c.requires.seat.1.token_is in
     let x = unlocked_many s c.args.token c.take_waits.new.token t3 n a is c.requires.seat.1.locked.0 c.take_waits.ensures.walked c.unlock_many.ensures.walked in
     woken_seat s t3 c.grant_all.new.token n a is x c.grant_all.ensures (c.grant_all.ensures.slots ∙ c.unlock_many.ensures.bare)
 
 pub returns : goal.returns
-returns c s0 h =
+returns g c s0 h =
     let s = s0 in let a : ReleaseMany = c.args.call.now in let t1 = c.args.token in let t2 = c.take_waits.new.token in
     let t3 = c.unlock_many.new.token in let t4 = c.grant_all.new.token in let n = c.args.numbers in
     let is = h.token_is in

@@ -10,19 +10,19 @@ use Rattle.sema_table.specs.Tries.{FindsHeld}
 use Rattle.sema_table.specs.Leaving.{LeavesAtLock}
 use Rattle.sema_table.proofs.CallerLeaves.{leaves_by, leaves, still_parked}
 use Rattle.sema_table.proofs.Trying.{held_midway, finds_held}
-use Rattle.sema_table.proofs.sema_table.SemaTable.try_leave.Goals as goal
+use Rattle.sema_table.proofs.sema_table.SemaTable.try_leave_with.Goals as goal
 
 pub returns-in-Err-clause-caller : goal.returns-in-Err-clause-caller
-returns-in-Err-clause-caller c = leaves c.args.sleeping c.in-Err.gave_up c.in-Err.ensures.0
+returns-in-Err-clause-caller g c = leaves c.args.sleeping c.in-Err.gave_up c.in-Err.ensures.0
 
 pub invariant_of-result : goal.invariant_of-result
-invariant_of-result c =
+invariant_of-result g c =
     let n = c.asleep.inside in
     held_midway n.token c.try_lock.new.token n.numbers n.call.counter c.if-not-try_lock.ensures c.asleep.invariant.token_is n.call.counter
     (Acquiring n.call (Parked n.turn P)) c.asleep.invariant
 
 pub returns-then-not-try_lock-clause-rows : goal.returns-then-not-try_lock-clause-rows
-returns-then-not-try_lock-clause-rows c =
+returns-then-not-try_lock-clause-rows g c =
     let n = c.asleep.inside in let u = c.in-Ok.asleep in let looked = c.in-Ok.ensures.0 in
     let parked : Place = Acquiring n.call (Parked n.turn P) in
     let at : IsAt u parked = subst (λ (y : SeatModel). IsAt y parked) c.asleep.view_is c.asleep.invariant.at in (
@@ -38,11 +38,11 @@ returns-then-not-try_lock-clause-rows c =
     )
 
 pub returns-then-not-try_lock-clause-caller : goal.returns-then-not-try_lock-clause-caller
-returns-then-not-try_lock-clause-caller c = still_parked c.args.sleeping (seat_of c.try_lock.new.token c.asleep.inside.numbers)
+returns-then-not-try_lock-clause-caller g c = still_parked c.args.sleeping (seat_of c.try_lock.new.token c.asleep.inside.numbers)
     (returns-then-not-try_lock-clause-rows c)
 
 pub returns-clause-rows : goal.returns-clause-rows
-returns-clause-rows c =
+returns-clause-rows g c =
     let n = c.asleep.inside in let looked = c.in-Ok.ensures.0 in let is = c.asleep.invariant in
     let of : table_of n.token ≡ c.args.self.now = ap (λ (y : SeatModel). y.table) (c.asleep.view_is ∙ looked.3.same) ∙ c.requires in
     leaves_by c.args.sleeping c.in-Ok.asleep c.leave_locked.result looked
@@ -55,4 +55,4 @@ returns-clause-rows c =
     }) is.at))
 
 pub returns-clause-caller : goal.returns-clause-caller
-returns-clause-caller c = leaves c.args.sleeping c.leave_locked.result (returns-clause-rows c)
+returns-clause-caller g c = leaves c.args.sleeping c.leave_locked.result (returns-clause-rows c)
