@@ -67,7 +67,7 @@ returns-then-less-clause-rows g c s may =
 
 pub returns-then-less-clause-caller : goal.returns-then-less-clause-caller
 returns-then-less-clause-caller g c s may =
-    enters_at_once _ _ (is_sound c.give_lock.new.token c.args.number (invariant_of-result c).token_is) (returns-then-less-clause-rows c s may)
+    enters_at_once _ _ (is_sound c.give_lock.new.token c.args.number (invariant_of-result g c).token_is) (returns-then-less-clause-rows g c s may)
 
 pub may_leave-may_leave-requires : goal.may_leave-may_leave-requires
 may_leave-may_leave-requires g c =
@@ -147,4 +147,4 @@ returns-clause-rows g c s may =
 
 pub returns-clause-caller : goal.returns-clause-caller
 returns-clause-caller g c s may =
-    enters_queued _ _ (is_sound c.give_lock-2.new.token c.args.number (invariant_of-result-2 c).token_is) (returns-clause-rows c s may)
+    enters_queued _ _ (is_sound c.give_lock-2.new.token c.args.number (invariant_of-result-2 g c).token_is) (returns-clause-rows g c s may)

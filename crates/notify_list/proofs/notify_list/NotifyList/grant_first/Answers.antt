@@ -17,7 +17,7 @@ grant-requires g c =
     let x = c.self.inside in let s = c.args.token.now in let l = c.args.self.now in let r = c.requires in let w : Wait = r.1 in let may = r.3 in
     let low = waiter_there l s r.0 w r.2 may r.4 in let at = may.list_is ∙ sym c.self.view_is in let mine = ap (λ (y : ListModel). y.setting.seats) at in
     let same = r.5 in let word = c.grant_word.ensures in let A = c.asleep_word.ensures in
-    let futex = grant_futex x c.args.seat c.self.view_is (asleep_word-requires c.before) word A.at A.low in (
+    let futex = grant_futex x c.args.seat c.self.view_is (asleep_word-requires g c.before) word A.at A.low in (
       omega arith,
       (
         owned x c.self.invariant s at,

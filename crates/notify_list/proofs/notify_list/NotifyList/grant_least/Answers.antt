@@ -87,7 +87,7 @@ returns-then-load-ticket-clause-rows g c s n h may =
 
 pub returns-then-load-ticket-clause-own : goal.returns-then-load-ticket-clause-own
 returns-then-load-ticket-clause-own g c = let may = c.requires.3 in
-    ap (λ (q : SeatModel). q.list) (returns-then-load-ticket-clause-rows c c.requires.0 c.requires.1 c.requires.2 may).0.0.same ∙ may.list_is
+    ap (λ (q : SeatModel). q.list) (returns-then-load-ticket-clause-rows g c c.requires.0 c.requires.1 c.requires.2 may).0.0.same ∙ may.list_is
 
 pub returns-clause-rows : goal.returns-clause-rows
 returns-clause-rows g c s n h may =
@@ -104,4 +104,4 @@ returns-clause-rows g c s n h may =
 
 pub returns-clause-own : goal.returns-clause-own
 returns-clause-own g c = let may = c.requires.3 in
-    ap (λ (q : SeatModel). q.list) (returns-clause-rows c c.requires.0 c.requires.1 c.requires.2 may).0.0.same ∙ may.list_is
+    ap (λ (q : SeatModel). q.list) (returns-clause-rows g c c.requires.0 c.requires.1 c.requires.2 may).0.0.same ∙ may.list_is

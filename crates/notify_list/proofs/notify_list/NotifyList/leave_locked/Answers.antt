@@ -57,7 +57,7 @@ returns-in-Some-clause-rows g c s h =
     left l s n h.parked t h.list_is h.took h.own u word out v F c.give_lock.new.token c.give_lock.ensures.went c.give_lock.ensures.own
 
 pub returns-in-Some-clause-lawful : goal.returns-in-Some-clause-lawful
-returns-in-Some-clause-lawful g c = (is_sound c.give_lock.new.token c.args.number (invariant_of-result c).token_is).lawful
+returns-in-Some-clause-lawful g c = (is_sound c.give_lock.new.token c.args.number (invariant_of-result g c).token_is).lawful
 
 pub give_lock-requires-2 : goal.give_lock-requires-2
 give_lock-requires-2 g c =
@@ -91,4 +91,4 @@ returns-clause-rows g c s h =
     coming l s n h.parked t h.list_is h.took h.own u out c.give_lock-2.new.token c.give_lock-2.ensures.went c.give_lock-2.ensures.own
 
 pub returns-clause-lawful : goal.returns-clause-lawful
-returns-clause-lawful g c = (is_sound c.give_lock-2.new.token c.args.number (invariant_of-result-2 c).token_is).lawful
+returns-clause-lawful g c = (is_sound c.give_lock-2.new.token c.args.number (invariant_of-result-2 g c).token_is).lawful

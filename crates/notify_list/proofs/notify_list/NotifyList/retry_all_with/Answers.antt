@@ -38,7 +38,7 @@ slice_bounds-grant_seats-end g c =
     let fit = all_fit l v N.h k takes c.args.woken.now c.requires.room in let e = c.take_all-waits.ensures.count in let w = c.take_all-waits.auto.room in omega arith
 
 pub slice_bounds-grant_seats-end-2 : goal.slice_bounds-grant_seats-end-2
-slice_bounds-grant_seats-end-2 g c = sym (length-take-le c.take_all-waits.result c.take_all-waits.new.room (slice_bounds-grant_seats-end c))
+slice_bounds-grant_seats-end-2 g c = sym (length-take-le c.take_all-waits.result c.take_all-waits.new.room (slice_bounds-grant_seats-end g c))
 
 pub grant_seats-requires-clause-seat : goal.grant_seats-requires-clause-seat
 grant_seats-requires-clause-seat g c =
@@ -86,8 +86,8 @@ returns-clause-seats g c =
 pub returns-clause-caller : goal.returns-clause-caller
 returns-clause-caller g c =
     ends_notifying c.args.owing (seat_of c.grant_seats.new.token c.owing.inside.number)
-    (is_sound c.grant_seats.new.token c.owing.inside.number (invariant_of-result-2 c).token_is).lawful c.reach_all-tickets.result
-    (returns-clause-rows c)
+    (is_sound c.grant_seats.new.token c.owing.inside.number (invariant_of-result-2 g c).token_is).lawful c.reach_all-tickets.result
+    (returns-clause-rows g c)
 
 pub invariant_of-result : goal.invariant_of-result
 invariant_of-result g c = held_notifying c.owing.inside.token c.try_lock.new.token c.owing.inside.number c.if-not-try_lock.ensures c.owing.invariant
@@ -99,4 +99,4 @@ returns-then-not-try_lock-clause-rows g c =
 
 pub returns-then-not-try_lock-clause-caller : goal.returns-then-not-try_lock-clause-caller
 returns-then-not-try_lock-clause-caller g c = let t = c.try_lock.new.token in let n : ℕ = c.owing.inside.number in
-    stands_on c.args.owing (seat_of t n) (is_sound t n (invariant_of-result c).token_is).lawful (returns-then-not-try_lock-clause-rows c)
+    stands_on c.args.owing (seat_of t n) (is_sound t n (invariant_of-result g c).token_is).lawful (returns-then-not-try_lock-clause-rows g c)

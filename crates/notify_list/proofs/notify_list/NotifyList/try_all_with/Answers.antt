@@ -36,8 +36,8 @@ returns-then-look_for_all-clause-seats g c =
 
 pub returns-then-look_for_all-clause-caller : goal.returns-then-look_for_all-clause-caller
 returns-then-look_for_all-clause-caller g c = let t = c.look_for_all.new.token in let n : ℕ = c.seat.inside.number in
-    notifies_all c.args.seat (seat_of t n) (is_sound t n (invariant_of-result c).token_is).lawful 0 (returns-then-look_for_all-clause-rows c)
-    (returns-then-look_for_all-clause-count c) (returns-then-look_for_all-clause-granted c)
+    notifies_all c.args.seat (seat_of t n) (is_sound t n (invariant_of-result g c).token_is).lawful 0 (returns-then-look_for_all-clause-rows g c)
+    (returns-then-look_for_all-clause-count g c) (returns-then-look_for_all-clause-granted g c)
 
 pub returns-clause-rows : goal.returns-clause-rows
 returns-clause-rows g c =

@@ -56,4 +56,4 @@ returns-clause-rows g c =
     (finds_held s t n (saw_held s t c.if-try_lock.ensures.took c.if-try_lock.ensures.own) c.parked.invariant.token_is)
 
 pub returns-clause-lawful : goal.returns-clause-lawful
-returns-clause-lawful g c = (is_sound c.try_lock.new.token c.parked.inside.number (invariant_of-result c).token_is).lawful
+returns-clause-lawful g c = (is_sound c.try_lock.new.token c.parked.inside.number (invariant_of-result g c).token_is).lawful

@@ -38,7 +38,7 @@ returns-then-try_lock-clause-wait g c = granted_wait c.args.self.now c.grant_lea
     c.grant_least.result c.grant_least.ensures.wait
 
 pub returns-then-try_lock-clause-lawful : goal.returns-then-try_lock-clause-lawful
-returns-then-try_lock-clause-lawful g c = (is_sound c.grant_least.new.token c.seat.inside.number (invariant_of-seat c).token_is).lawful
+returns-then-try_lock-clause-lawful g c = (is_sound c.grant_least.new.token c.seat.inside.number (invariant_of-seat g c).token_is).lawful
 
 pub invariant_of-seat-else-try_lock : goal.invariant_of-seat-else-try_lock
 invariant_of-seat-else-try_lock g c = held_seat c.seat.inside.token c.try_lock.new.token c.seat.inside.number c.if-try_lock.ensures c.seat.invariant
@@ -49,4 +49,4 @@ returns-clause-rows g c h at =
     (finds_held c.seat.inside.token c.try_lock.new.token c.seat.inside.number c.if-try_lock.ensures c.seat.invariant.token_is)
 
 pub returns-clause-lawful : goal.returns-clause-lawful
-returns-clause-lawful g c = (is_sound c.try_lock.new.token c.seat.inside.number (invariant_of-seat-else-try_lock c).token_is).lawful
+returns-clause-lawful g c = (is_sound c.try_lock.new.token c.seat.inside.number (invariant_of-seat-else-try_lock g c).token_is).lawful

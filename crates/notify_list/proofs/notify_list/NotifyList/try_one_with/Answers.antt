@@ -25,5 +25,5 @@ returns-clause-none g c = let s = c.args.seat.now in let u = c.quiet-quiet.new.s
 pub returns-clause-caller : goal.returns-clause-caller
 returns-clause-caller g c = let s = c.args.seat.now in let u = c.quiet-quiet.new.seat in let t = c.try_one_at_lock.new.seat in
     let x : HasLooked s false u = c.if-quiet.ensures.looked in
-    tries_one s u t c.try_one_at_lock.ensures.lawful c.if-quiet.ensures.caller c.try_one_at_lock.result (returns-clause-rows c)
-    (kept_busy _ u t c.try_one_at_lock.result (c.try_one_at_lock.ensures.rows x.h (place_then s u t x))) (returns-clause-some c) (returns-clause-none c)
+    tries_one s u t c.try_one_at_lock.ensures.lawful c.if-quiet.ensures.caller c.try_one_at_lock.result (returns-clause-rows g c)
+    (kept_busy _ u t c.try_one_at_lock.result (c.try_one_at_lock.ensures.rows x.h (place_then s u t x))) (returns-clause-some g c) (returns-clause-none g c)

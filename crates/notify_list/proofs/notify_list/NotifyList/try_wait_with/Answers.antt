@@ -22,4 +22,4 @@ returns-clause-rows g c =
 
 pub returns-clause-caller : goal.returns-clause-caller
 returns-clause-caller g c = let t = c.try_lock.new.token in let n : ℕ = c.holding.inside.number in
-    stands_on c.args.holding (seat_of t n) (is_sound t n (invariant_of-result c).token_is).lawful (returns-clause-rows c)
+    stands_on c.args.holding (seat_of t n) (is_sound t n (invariant_of-result g c).token_is).lawful (returns-clause-rows g c)

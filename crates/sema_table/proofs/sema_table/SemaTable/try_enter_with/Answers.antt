@@ -11,7 +11,7 @@ pub returns-clause-rows : goal.returns-clause-rows
 returns-clause-rows g c = search rules
 
 pub returns-clause-caller : goal.returns-clause-caller
-returns-clause-caller g c = enters c.args.seat (acquire_of c.args.counter c.args.lifo) c.enter_locked.result (returns-clause-rows c)
+returns-clause-caller g c = enters c.args.seat (acquire_of c.args.counter c.args.lifo) c.enter_locked.result (returns-clause-rows g c)
 
 pub invariant_of-result : goal.invariant_of-result
 invariant_of-result g c = held_seat c.seat.inside.token c.try_lock.new.token c.seat.inside.numbers c.args.counter c.if-not-try_lock.ensures c.seat.invariant
@@ -23,4 +23,4 @@ returns-then-not-try_lock-clause-rows g c =
 
 pub returns-then-not-try_lock-clause-caller : goal.returns-then-not-try_lock-clause-caller
 returns-then-not-try_lock-clause-caller g c = stands_on c.args.seat (seat_of c.try_lock.new.token c.seat.inside.numbers) c.args.counter
-    (returns-then-not-try_lock-clause-rows c)
+    (returns-then-not-try_lock-clause-rows g c)

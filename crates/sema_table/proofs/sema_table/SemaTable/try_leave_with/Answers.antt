@@ -39,7 +39,7 @@ returns-then-not-try_lock-clause-rows g c =
 
 pub returns-then-not-try_lock-clause-caller : goal.returns-then-not-try_lock-clause-caller
 returns-then-not-try_lock-clause-caller g c = still_parked c.args.sleeping (seat_of c.try_lock.new.token c.asleep.inside.numbers)
-    (returns-then-not-try_lock-clause-rows c)
+    (returns-then-not-try_lock-clause-rows g c)
 
 pub returns-clause-rows : goal.returns-clause-rows
 returns-clause-rows g c =
@@ -55,4 +55,4 @@ returns-clause-rows g c =
     }) is.at))
 
 pub returns-clause-caller : goal.returns-clause-caller
-returns-clause-caller g c = leaves c.args.sleeping c.leave_locked.result (returns-clause-rows c)
+returns-clause-caller g c = leaves c.args.sleeping c.leave_locked.result (returns-clause-rows g c)

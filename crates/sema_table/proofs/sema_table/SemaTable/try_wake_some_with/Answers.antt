@@ -26,7 +26,7 @@ returns-clause-rows g c =
     )
 
 pub returns-clause-caller : goal.returns-clause-caller
-returns-clause-caller g c = wakes_these c.args.owing c.wake_some_locked-seat.result c.wake_some_locked-seat.new.hand.items (returns-clause-rows c)
+returns-clause-caller g c = wakes_these c.args.owing c.wake_some_locked-seat.result c.wake_some_locked-seat.new.hand.items (returns-clause-rows g c)
 
 pub invariant_of-result : goal.invariant_of-result
 invariant_of-result g c = let is = c.owing.invariant in let call = c.owing.inside.call in record {
@@ -47,5 +47,5 @@ returns-then-not-try_lock_many-clause-rows g c =
 
 pub returns-then-not-try_lock_many-clause-caller : goal.returns-then-not-try_lock_many-clause-caller
 returns-then-not-try_lock_many-clause-caller g c =
-    let still = returns-then-not-try_lock_many-clause-rows c in
+    let still = returns-then-not-try_lock_many-clause-rows g c in
     stands_on c.args.owing (seat_of c.try_lock_many.new.token c.owing.inside.numbers) still.0.counter still.2

@@ -12,7 +12,7 @@ pub returns-clause-rows : goal.returns-clause-rows
 returns-clause-rows g c = (c.owing.inside.counter, search rules, search rules, search rules, search rules)
 
 pub returns-clause-caller : goal.returns-clause-caller
-returns-clause-caller g c = wakes c.args.owing c.wake_locked.result.0 c.args.handoff c.wake_locked.result.1 (returns-clause-rows c)
+returns-clause-caller g c = wakes c.args.owing c.wake_locked.result.0 c.args.handoff c.wake_locked.result.1 (returns-clause-rows g c)
 
 pub invariant_of-result : goal.invariant_of-result
 invariant_of-result g c =
@@ -30,5 +30,5 @@ returns-then-not-try_lock_released-clause-rows g c =
 
 pub returns-then-not-try_lock_released-clause-caller : goal.returns-then-not-try_lock_released-clause-caller
 returns-then-not-try_lock_released-clause-caller g c =
-    let still = returns-then-not-try_lock_released-clause-rows c in
+    let still = returns-then-not-try_lock_released-clause-rows g c in
     stands_on c.args.owing (seat_of c.try_lock_released.new.token c.owing.inside.numbers) still.0 still.2
