@@ -1,4 +1,5 @@
 pub mod Words
+pub mod Futexes
 pub mod Owned
 pub mod Beginning
 pub mod Early

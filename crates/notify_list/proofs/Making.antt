@@ -1,5 +1,5 @@
 -- A list as it is made.
-use Rattle.std.proofs.Common.{◌≡◌, ℕ, zero, suc, ◌+◌, ◌%◌, ◌^◌, ◌<◌, List, [], ◌∷◌, ◌++◌, length, replicate, map, get_or}
+use Rattle.std.proofs.Common.{◌≡◌, ℕ, zero, suc, ◌+◌, ◌-◌, ◌%◌, ◌^◌, ◌<◌, List, [], ◌∷◌, ◌++◌, length, replicate, map, get_or}
 use Rattle.std.proofs.Common.{slice_index, All, sym, refl, ap, ◌∙◌}
 use Rattle.std.proofs.Common.{subst, arith}
 use Rattle.std.proofs.lemmas.List.{length-replicate}
@@ -15,12 +15,15 @@ use Rattle.step_table.specs.ListWorld.{found, first_list}
 use Rattle.step_table.specs.ListSteps.{none}
 use Rattle.step_table.proofs.Paths.{goes_on_here}
 use Rattle.step_law_lists.proofs.ListPromises.{the_list_law}
+use Rattle.running_rows.specs.Futex.{Futex}
 use Rattle.running_rows.specs.Rule.{Opens, fresh_seat}
 use Rattle.notify_list.specs.declared.view.Record.{Record}
 use Rattle.notify_list.specs.declared.view.Setting.{Setting}
 use Rattle.notify_list.specs.Setting.{address, words_in, IsThere}
 use Rattle.notify_list.specs.Rule.{nothing_guarded, IsMet, Lands, IsRecord, fresh}
+use Rattle.notify_list.specs.Futexes.{IsFutex}
 use Rattle.notify_list.specs.Rows.{list_rows}
+use Rattle.notify_list.proofs.Futexes.{are_futexes, far_away}
 use Rattle.notify_list.specs.Making.{IsMade, AreAllowed, new_seat, new_seats}
 use Rattle.notify_list.specs.Places.{is_free}
 use Rattle.notify_list.specs.Plays.{OneSeat}
@@ -49,6 +52,12 @@ first_words z fits Notify h = at_start z.first fits
 first_words z fits Lock h = zeros (2 + z.seats + z.seats + z.seats + z.seats + z.seats) 0
 first_words z fits (Grant s) h = ap (λ i. get_or (words_of z) i 0) (let e : 3 + s ≡ suc (suc (1 + s)) = omega arith in e)
     ∙ zeros (2 + z.seats + z.seats + z.seats + z.seats + z.seats) (1 + s)
+
+-- nobody sleeps yet
+none_sleep : (z : Setting) (x : Futex) → IsFutex z x → slice_index (words_of z) x.sleepers ≡ 0
+none_sleep z x is = let far = far_away z x is in let k : ℕ = x.sleepers - 2 in
+    ap (λ i. get_or (words_of z) i 0) (let e : x.sleepers ≡ suc (suc k) = omega arith in e)
+    ∙ zeros (2 + z.seats + z.seats + z.seats + z.seats + z.seats) k
 
 -- one more of them
 pub one_more : {A : Type 0} (f : ℕ → A) (a n j : ℕ) (xs : List A) (x : A) → a + n ≡ j → xs ≡ map f (range_with_len a n) → x ≡ f j
@@ -94,6 +103,8 @@ opens z y fits seats empty = record {
     held = λ h. refl;
   };
   some_seats = (let k = seats.0 in omega arith);
+  futexes = are_futexes z;
+  none_sleep = none_sleep z;
 }
 
 -- the seats of a list are of this list

@@ -128,11 +128,3 @@ pub granted_wait : (l : ListModel) (t : Token) (n : ℕ) → list_of t ≡ l →
     → IfSome o (λ x. GrantsItsWait x (seat_of t n))
 granted_wait l t n own None y = tt
 granted_wait l t n own (Some x) y = subst (λ (q : ListModel). GrantsLast q x.ticket x.seat t) (sym own) y
-
--- and back
-pub has_granted : (l : ListModel) (s : SeatModel) (t : Token) (n : ℕ) → seat_of t n ≡ s → s.list ≡ l → (o : Option Notified)
-    → IfSome o (λ x. GrantsItsWait x s) → HasGranted l o t
-has_granted l s t n is own None y = tt
-has_granted l s t n is own (Some x) y =
-    subst (λ (q : ListModel). GrantsLast q x.ticket x.seat t) (ap (λ (z : SeatModel). z.list) is ∙ own)
-    (subst (λ (z : SeatModel). GrantsItsWait x z) (sym is) y)

@@ -1,5 +1,6 @@
 pub mod Sights
 pub mod Setting
+pub mod Futexes
 pub mod Places
 pub mod LiveTickets
 pub mod Rule

@@ -1,5 +1,7 @@
 -- The rows of a running notify list.
 use Rattle.std.specs.Prelude.{◌≡◌, ℕ, zero, suc, ◌<◌, refl}
+use Rattle.step_table.specs.declared.list_place.AllRow.TheVariants.{L8}
+use Rattle.step_table.specs.declared.list_place.ListPlace.TheVariants.{NotifyingAll}
 use Rattle.step_table.specs.declared.list_place.ListWord.{ListWord}
 use Rattle.step_table.specs.declared.list_place.ListWord.TheVariants.{Wait, Notify, Lock, Grant}
 use Rattle.step_table.specs.EventOf.{store}
@@ -15,6 +17,7 @@ use Rattle.notify_list.specs.declared.view.Known.{Known}
 use Rattle.notify_list.specs.declared.view.Setting.{Setting}
 use Rattle.notify_list.specs.declared.view.Record.{Record}
 use Rattle.notify_list.specs.Setting.{address}
+use Rattle.notify_list.specs.Futexes.{IsFutex}
 use Rattle.notify_list.specs.Rule.{watched, Guarded, guarded_in, guarded_by, IsMet, Knows, Lands, IsRecord, Shows, fresh}
 
 -- the word at this address
@@ -52,6 +55,10 @@ pub record HasStored (p : ListStride) (place x : ℕ) : Type 0 where
 abbrev pub no_list : Setting
 no_list = record { first = 0; seats = 0 }
 
+-- who grants one by one, after it took out all waits, may leave wake-ups to those that it wakes
+abbrev pub MayPass : Known → Type 0
+MayPass v = (h : ℕ) × (v.sight.stands.place ≡ NotifyingAll h L8)
+
 abbrev pub list_rows : Family Record Known ListStride Setting
 list_rows = record {
   Key = Setting;
@@ -77,6 +84,8 @@ list_rows = record {
   Also = Beside;
   HasStored = λ z. HasStored;
   HasGiven = λ p slots. Unit {0};
+  IsFutex = IsFutex;
+  MayPass = MayPass;
   fresh_is = λ z. refl;
   nobody_is = refl;
 }

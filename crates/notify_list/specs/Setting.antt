@@ -15,8 +15,8 @@ address (Grant s) = 3 + s
 abbrev pub words_shown : Setting → ℕ
 words_shown z = 3 + z.seats
 
--- behind them lie words of which the world knows nothing, four of each seat. One is above 0 while the seat's
--- thread sleeps
+-- behind them lie words of which the world knows nothing, four of each seat. One counts who sleeps at the seat's
+-- grant
 abbrev pub asleep_address : Setting → ℕ → ℕ
 asleep_address z s = words_shown z + s
 

@@ -12,11 +12,12 @@
 //! the granter wakes the heir. So each that was granted is woken. A seat gets heirs only where its thread
 //! sleeps, in a wait: if it polled, they would sleep until its caller comes to that. A wait whose time ends
 //! just then was taken out of the list before, so its seat can't leave: it comes by its grant, and wakes them.
-ghost use Rattle.std.specs.Prelude.{◌≡◌, ◌<◌, ◌≤◌, List};
+//!
+//! A notification that must not wait names no heirs, and wakes each seat as it grants it.
+ghost use Rattle.std.specs.Prelude.{◌≡◌, ◌<◌, List};
 ghost use Rattle.step_law_lists.specs.ListPath.{ListStride};
 ghost use Rattle.notify_list.specs.Seats.{list_of};
-ghost use Rattle.notify_list.specs.Setting.{words_shown};
-ghost use Rattle.notify_list.specs.Heirs.{IsSame};
+ghost use Rattle.notify_list.specs.Heirs.{IsSame, NamesHeir};
 ghost use Rattle.notify_list.specs.NotifyingAll.{StoresGrants};
 
 use crate::notify_list::{NotifyList, grant_word};
@@ -70,7 +71,7 @@ impl NotifyList {
     /// Names a seat in a word, or nobody.
     fn name(&self, token: &mut Token, word: usize, heir: Option<u32>)
         requires own { list_of token.old ≡ self.now }
-        requires aside { (words_shown self.now.setting ≤ word) × (word < self.now.id.words) }
+        requires names { NamesHeir self.now.setting word }
         ensures { IsSame token.old token.new }
     {
         let name = name_of(heir);
@@ -134,7 +135,7 @@ impl NotifyList {
     /// Wakes whom the word names, and names nobody there.
     fn wake_heir(&self, token: &mut Token, word: usize)
         requires own { list_of token.old ≡ self.now }
-        requires aside { (words_shown self.now.setting ≤ word) × (word < self.now.id.words) }
+        requires names { NamesHeir self.now.setting word }
         ensures { IsSame token.old token.new }
     {
         let name = self.words.aside(token, word);

@@ -15,7 +15,7 @@ use crate::notify_list::{LOCK, NOTIFY, NotifyList};
 use crate::rows::{AtLeave, Token};
 use crate::seat::{ListSeat, Parked};
 use crate::waited::{GaveUp, Polled};
-use running_rows::Here;
+use running_rows::{Futexes, Here, Kernel};
 use std::sync::Wait;
 use waiters::SeatId;
 
@@ -42,17 +42,11 @@ impl NotifyList {
         ensures caller { MatchResult result (λ gave_up. GivesUp parked gave_up)
             (λ still. StandsOn parked still) }
     {
-        let tried = self.leave_silently(parked);
-        match &tried {
-            Ok(GaveUp::Left(seat)) => self.rouse_at_lock(&seat.token),
-            Ok(GaveUp::Coming(still)) => self.rouse_at_lock(&still.token),
-            _ => {}
-        }
-        tried
+        self.try_leave_with::<Futexes>(parked)
     }
 
-    /// The same, and nobody is woken.
-    pub(crate) fn leave_silently(&self, parked: Parked) -> Result<GaveUp, Parked>
+    /// The same, where threads sleep, or none does.
+    pub(crate) fn try_leave_with<N: Kernel>(&self, parked: Parked) -> Result<GaveUp, Parked>
         requires { parked.list ≡ self.now }
         ensures rows { MatchResult result (λ gave_up. Leaves parked gave_up)
             (λ still. StillParked parked still) }
@@ -60,7 +54,7 @@ impl NotifyList {
             (λ still. StandsOn parked still) }
     {
         match self.look_before(parked) {
-            Ok(still) => self.try_leave_at_lock(still),
+            Ok(still) => self.try_leave_at_lock::<N>(still),
             Err(gave_up) => Ok(gave_up),
         }
     }
@@ -99,14 +93,12 @@ impl NotifyList {
         } = parked;
         self.words
             .take_lock::<AtLeave, R>(rt, &mut token, LOCK, self.sleepers_word());
-        let gave_up = self.leave_locked(token, number);
-        self.rouse_after(&gave_up);
-        gave_up
+        self.leave_locked::<Futexes>(token, number)
     }
 
     /// The same, if the lock is found free.
     #[inline(never)]
-    fn try_leave_at_lock(&self, parked: Parked) -> Result<GaveUp, Parked>
+    fn try_leave_at_lock<N: Kernel>(&self, parked: Parked) -> Result<GaveUp, Parked>
         requires { (parked.list ≡ self.now) × MayLeave parked }
         ensures rows { MatchResult result (λ gave_up. LeavesAtLock parked gave_up)
             (λ still. FindsHeld parked still) }
@@ -119,7 +111,7 @@ impl NotifyList {
             may_leave,
         } = parked;
         if self.words.try_lock::<AtLeave>(&mut token, LOCK) {
-            return Ok(self.leave_locked(token, number));
+            return Ok(self.leave_locked::<N>(token, number));
         }
         Err(Parked {
             token,
@@ -128,18 +120,8 @@ impl NotifyList {
         })
     }
 
-    /// Wakes one thread that sleeps at the lock, which was given back.
-    fn rouse_after(&self, gave_up: &GaveUp) {
-        match gave_up {
-            GaveUp::Left(seat) | GaveUp::Granted(seat) => self.rouse_at_lock(&seat.token),
-            GaveUp::Coming(parked) | GaveUp::LimitReached(parked) => {
-                self.rouse_at_lock(&parked.token);
-            }
-        }
-    }
-
     /// The rows after E1, up to the one that gives the lock back.
-    fn leave_locked(&self, token: Token, number: u16) -> GaveUp
+    fn leave_locked<N: Kernel>(&self, token: Token, number: u16) -> GaveUp
         requires { (s : Before) × HasLocked self.now s number token }
         ensures rows { (s : Before) → HasLocked self.now s number token
             → LeavesAtLock (seat_of s number) result }
@@ -148,11 +130,13 @@ impl NotifyList {
         let mut token = token;
         if let Some(ticket) = self.remove_own(&mut token, SeatId::new(number)) {
             self.forgo(&mut token, ticket);
-            self.words.return_lock(&mut token, LOCK);
+            self.words
+                .give_lock::<N>(&mut token, LOCK, self.sleepers_word());
             return GaveUp::Left(ListSeat { token, number });
         }
         // Asleep again, and not at rest: the grant would be stored for the seat's next sleep.
-        self.words.return_lock(&mut token, LOCK);
+        self.words
+            .give_lock::<N>(&mut token, LOCK, self.sleepers_word());
         GaveUp::Coming(Parked {
             token,
             number,

@@ -10,14 +10,15 @@
 //! is the rows that it ran and the entries of the journal that they told; beside it stands what it says of
 //! tickets, and in a clause `caller` what the call is to one who knows no rows: the seat before and after, the
 //! entries that it told, and what the answer means. A wait with a time-out has that clause alone.
-//! [`law_of_the_list`] says that the list is lawful between any two steps.
+//! [`law_of_the_list`] says that the list is lawful between any two steps, and [`law_of_the_sleepers`] that no
+//! thread that sleeps in the kernel is lost.
 //!
 //! A caller that must not wait, as a scheduler, has [`NotifyList::try_wait`], [`NotifyList::try_one`] and
 //! [`NotifyList::try_all`], which find the list's lock free or give the seat back, and tell whom they granted.
 //! A seat that is parked looks by [`NotifyList::poll`] whether its ticket is granted, and gives up by
 //! [`NotifyList::leave`] or [`NotifyList::try_leave`]; one that has looked for a notification of all goes on by
 //! [`NotifyList::retry_all`]. A [`TaskList`] is for tasks whose threads
-//! somebody else parks: none of its calls waits or calls the kernel, and its seats are of one type wherever
+//! somebody else parks: none of its calls waits, so nobody sleeps there, and its seats are of one type wherever
 //! they stand.
 //!
 //! A list has 1 to 65,536 seats. Its tickets are words of 64 bits that wrap: the first is what the list starts
@@ -58,7 +59,7 @@ mod waited;
 mod waits;
 
 pub use closed::ListClosed;
-pub use laws::law_of_the_list;
+pub use laws::{law_of_the_list, law_of_the_sleepers};
 pub use notified::{Busy, Notified, NotifiedAll};
 pub use notify_list::NotifyList;
 pub use seat::{Holding, ListSeat, OwingAll, Parked};

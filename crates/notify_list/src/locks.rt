@@ -1,4 +1,4 @@
-//! Taking the list's lock, and waking who sleeps at it.
+//! Taking the list's lock.
 ghost use Rattle.std.specs.Prelude.{MatchBool};
 ghost use Rattle.notify_list.specs.Walks.{MayLock, Locked, SawHeld};
 
@@ -23,10 +23,5 @@ impl NotifyList {
         ensures { MatchBool result (Locked token.old token.new) (SawHeld token.old token.new) }
     {
         self.words.try_lock::<AtWait>(token, LOCK)
-    }
-
-    /// Wakes one thread that sleeps at the lock, which was given back, where one does.
-    pub(crate) fn rouse_at_lock(&self, token: &Token) {
-        self.words.rouse_at_lock(token, LOCK, self.sleepers_word());
     }
 }

@@ -5,7 +5,7 @@ ghost use Rattle.step_law_lists.specs.ListPath.{ListStride};
 ghost use Rattle.notify_list.specs.Seats.{stands_of, queue_of};
 ghost use Rattle.notify_list.specs.Calls.{AllGranted};
 ghost use Rattle.notify_list.specs.NotifyingAll.{NotifiesAll, GrantsSome, FindsHeldForAll, EndsAll};
-ghost use Rattle.notify_list.specs.NotifyingAll.{GrantsSeats, NamesSeats, StoresGrants};
+ghost use Rattle.notify_list.specs.NotifyingAll.{NamesSeats, StoresGrants};
 ghost use Rattle.notify_list.specs.Callers.{NotifiesAllTickets, EndsNotifyingAll, StandsOn, LeavesAll};
 ghost use Rattle.notify_list.specs.Meeting.{FindsHeld};
 ghost use Rattle.notify_list.specs.GrantingAll.{MayLook, LookedForAll, MayReach, ReachedAll};
@@ -15,7 +15,7 @@ use crate::notified::NotifiedAll;
 use crate::notify_list::{LOCK, NOTIFY, NotifyList, WAIT, grant_word};
 use crate::rows::{AtAll, Token};
 use crate::seat::{ListSeat, OwingAll};
-use running_rows::Here;
+use running_rows::{Futexes, Here, Kernel};
 use std::sync::Wait;
 
 /// The most waits whose seats stand on a small piece of the stack.
@@ -60,37 +60,11 @@ impl NotifyList {
         ensures caller { MatchResult result (λ all. NotifiesAllTickets seat all.1.tickets all.0)
             (λ owing. LeavesAll seat owing) }
     {
-        let tried = self.all_silently(seat, woken);
-        if let Ok((seat, all)) = &tried {
-            self.wake_each(seat, &woken[..all.waits]);
-        }
-        tried
+        self.try_all_with::<Futexes>(seat, woken)
     }
 
-    /// Goes on with a notification of all from the lock on.
-    pub fn retry_all(
-        &self,
-        owing: OwingAll,
-        woken: &mut [u32],
-    ) -> Result<(ListSeat, NotifiedAll), OwingAll>
-        requires seat { owing.list ≡ self.now }
-        requires room { self.now.setting.seats ≤ length woken.old }
-        ensures rows { MatchResult result (λ all. EndsAll owing all.1.tickets all.0)
-            (λ still. FindsHeld owing still) }
-        ensures seats { IfOk result (λ all. NamesSeats self.now woken.new all.1.waits all.0) }
-        ensures kept { OnErr result (woken.new ≡ woken.old) }
-        ensures caller { MatchResult result (λ all. EndsNotifyingAll owing all.1.tickets all.0)
-            (λ still. StandsOn owing still) }
-    {
-        let tried = self.go_on_silently(owing, woken);
-        if let Ok((seat, all)) = &tried {
-            self.wake_each(seat, &woken[..all.waits]);
-        }
-        tried
-    }
-
-    /// As `try_all`, and nobody is woken.
-    pub(crate) fn all_silently(
+    /// The same, where threads sleep, or none does.
+    pub(crate) fn try_all_with<N: Kernel>(
         &self,
         seat: ListSeat,
         woken: &mut [u32],
@@ -114,11 +88,29 @@ impl NotifyList {
             };
             return Ok((ListSeat { token, number }, none));
         }
-        self.go_on_silently(OwingAll { token, number }, woken)
+        self.retry_all_with::<N>(OwingAll { token, number }, woken)
     }
 
-    /// As `retry_all`, and nobody is woken.
-    pub(crate) fn go_on_silently(
+    /// Goes on with a notification of all from the lock on.
+    pub fn retry_all(
+        &self,
+        owing: OwingAll,
+        woken: &mut [u32],
+    ) -> Result<(ListSeat, NotifiedAll), OwingAll>
+        requires seat { owing.list ≡ self.now }
+        requires room { self.now.setting.seats ≤ length woken.old }
+        ensures rows { MatchResult result (λ all. EndsAll owing all.1.tickets all.0)
+            (λ still. FindsHeld owing still) }
+        ensures seats { IfOk result (λ all. NamesSeats self.now woken.new all.1.waits all.0) }
+        ensures kept { OnErr result (woken.new ≡ woken.old) }
+        ensures caller { MatchResult result (λ all. EndsNotifyingAll owing all.1.tickets all.0)
+            (λ still. StandsOn owing still) }
+    {
+        self.retry_all_with::<Futexes>(owing, woken)
+    }
+
+    /// The same, where threads sleep, or none does.
+    pub(crate) fn retry_all_with<N: Kernel>(
         &self,
         owing: OwingAll,
         woken: &mut [u32],
@@ -137,8 +129,8 @@ impl NotifyList {
             return Err(OwingAll { token, number });
         }
         let tickets = self.reach_all(&mut token);
-        let waits = self.take_all(&mut token, woken);
-        self.grant_seats(&mut token, &woken[..waits]);
+        let waits = self.take_all::<N>(&mut token, woken);
+        self.grant_seats::<N>(&mut token, &woken[..waits]);
         Ok((ListSeat { token, number }, NotifiedAll { tickets, waits }))
     }
 
@@ -193,14 +185,13 @@ impl NotifyList {
         requires room { length (queue_of token.old) ≤ length room.old }
         ensures { (h n : ℕ) → MayTake self.now token.old h n → TakenAndWoken token.old h n token.new }
     {
-        let waits = self.take_all(token, room);
-        self.rouse_at_lock(token);
+        let waits = self.take_all::<Futexes>(token, room);
         self.wake_all(token, &room[..waits]);
     }
 
     /// L7: all waits are taken out, and the lock is given back. The room begins with their seats. It answers how
     /// many they are.
-    fn take_all(&self, token: &mut Token, room: &mut [u32]) -> usize
+    fn take_all<N: Kernel>(&self, token: &mut Token, room: &mut [u32]) -> usize
         requires seat { (h : ℕ) × (n : ℕ) × MayTake self.now token.old h n }
         requires room { length (queue_of token.old) ≤ length room.old }
         ensures taken { (h n : ℕ) → MayTake self.now token.old h n → TakenAll token.old h n token.new }
@@ -210,7 +201,7 @@ impl NotifyList {
         let waits = self.remove_all(token, room);
         // Given back before the first waiter is told: told earlier, it would run into the lock that is still
         // held.
-        self.words.return_lock(token, LOCK);
+        self.words.give_lock::<N>(token, LOCK, self.sleepers_word());
         waits
     }
 
@@ -222,12 +213,12 @@ impl NotifyList {
             → WokenSome token.old h (stands_of token.old).hand [] token.new }
     {
         self.name_heirs(token, seats);
-        self.grant_seats(token, seats);
+        self.pass_seats(token, seats);
         self.wake_first(token, seats);
     }
 
-    /// L8 for each wait in hand, of which these are the seats. Nobody is woken.
-    fn grant_seats(&self, token: &mut Token, seats: &[u32])
+    /// L8 for each wait in hand, of which these are the seats. Each is woken as it is granted.
+    fn grant_seats<N: Kernel>(&self, token: &mut Token, seats: &[u32])
         requires seat { (h : ℕ) × MayWake self.now token.old h }
         requires seats { seats.now ≡ map (λ w. w.id.seat) (stands_of token.old).hand }
         ensures rows { (h : ℕ) → MayWake self.now token.old h
@@ -235,28 +226,43 @@ impl NotifyList {
         ensures stored { StoresGrants seats.now token.old.me.0.own.gone token.new.me.0.own.gone }
     {
         for seat in seats {
-            self.grant_first(token, *seat);
+            self.grant_first::<N>(token, *seat);
         }
     }
 
-    /// L8: the seat of the first wait in hand is granted.
-    fn grant_first(&self, token: &mut Token, seat: u32)
+    /// L8: the seat of the first wait in hand is granted, and woken.
+    fn grant_first<N: Kernel>(&self, token: &mut Token, seat: u32)
         requires { (h : ℕ) × (w : Queued) × (rest : List Queued) × MayWake self.now token.old h
             × ((stands_of token.old).hand ≡ w ∷ rest) × (w.id.seat ≡ seat) }
         ensures rows { (h : ℕ) (w : Queued) (rest : List Queued) → MayWake self.now token.old h
             → (stands_of token.old).hand ≡ w ∷ rest → WokenFirst token.old h w rest token.new }
         ensures stored { StoresGrants (seat ∷ []) token.old.me.0.own.gone token.new.me.0.own.gone }
     {
-        self.words.store_grant(token, grant_word(seat), 1);
+        self.words
+            .grant::<N>(token, grant_word(seat), self.asleep_word(seat), 1);
     }
 
-    /// Wakes who sleeps at the lock, which was given back, and each of these seats, which are all granted.
-    fn wake_each(&self, seat: &ListSeat, granted: &[u32])
-        requires { GrantsSeats granted.now seat.now }
+    /// As `grant_seats`, but nobody is woken: the first seats and their heirs do that.
+    fn pass_seats(&self, token: &mut Token, seats: &[u32])
+        requires seat { (h : ℕ) × MayWake self.now token.old h }
+        requires seats { seats.now ≡ map (λ w. w.id.seat) (stands_of token.old).hand }
+        ensures rows { (h : ℕ) → MayWake self.now token.old h
+            → WokenSome token.old h (stands_of token.old).hand [] token.new }
+        ensures stored { StoresGrants seats.now token.old.me.0.own.gone token.new.me.0.own.gone }
     {
-        self.rouse_at_lock(&seat.token);
-        for number in granted {
-            self.wake_seat(&seat.token, *number);
+        for seat in seats {
+            self.pass_first(token, *seat);
         }
+    }
+
+    /// As `grant_first`, but nobody is woken.
+    fn pass_first(&self, token: &mut Token, seat: u32)
+        requires { (h : ℕ) × (w : Queued) × (rest : List Queued) × MayWake self.now token.old h
+            × ((stands_of token.old).hand ≡ w ∷ rest) × (w.id.seat ≡ seat) }
+        ensures rows { (h : ℕ) (w : Queued) (rest : List Queued) → MayWake self.now token.old h
+            → (stands_of token.old).hand ≡ w ∷ rest → WokenFirst token.old h w rest token.new }
+        ensures stored { StoresGrants (seat ∷ []) token.old.me.0.own.gone token.new.me.0.own.gone }
+    {
+        self.words.pass_grant(token, grant_word(seat), 1);
     }
 }

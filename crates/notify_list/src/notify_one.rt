@@ -12,10 +12,10 @@ ghost use Rattle.notify_list.specs.Granting.{MayNotify, HasGranted};
 ghost use Rattle.notify_list.specs.Callers.{NotifiesOneTicket, LeavesOne};
 
 use crate::notified::{Busy, Notified, ticket_of_answer};
-use crate::notify_list::{LOCK, NOTIFY, NotifyList, WAIT, grant_word};
+use crate::notify_list::{LOCK, NOTIFY, NotifyList, WAIT};
 use crate::rows::Token;
 use crate::seat::ListSeat;
-use running_rows::Here;
+use running_rows::{Futexes, Here, Kernel};
 use std::sync::Wait;
 
 impl NotifyList {
@@ -44,8 +44,7 @@ impl NotifyList {
         ensures lawful { Follows seat.new.sight.seen }
     {
         self.lock(rt, &mut seat.token);
-        let notified = self.grant_least(&mut seat.token);
-        self.wake_notified(&seat.token, &notified);
+        let notified = self.grant_least::<Futexes>(&mut seat.token);
         ticket_of_answer(&notified)
     }
 
@@ -64,15 +63,14 @@ impl NotifyList {
             (λ notified. NotifiesOneTicket seat.old (ticket_of notified) seat.new)
             (λ busy. LeavesOne seat.old seat.new) }
     {
-        let tried = self.one_silently(seat);
-        if let Ok(notified) = &tried {
-            self.wake_notified(&seat.token, notified);
-        }
-        tried
+        self.try_one_with::<Futexes>(seat)
     }
 
-    /// The same, and nobody is woken.
-    pub(crate) fn one_silently(&self, seat: &mut ListSeat) -> Result<Option<Notified>, Busy>
+    /// The same, where threads sleep, or none does.
+    pub(crate) fn try_one_with<N: Kernel>(
+        &self,
+        seat: &mut ListSeat,
+    ) -> Result<Option<Notified>, Busy>
         requires { seat.old.list ≡ self.now }
         ensures rows { MatchResult result (λ notified. NotifiesOne seat.old (ticket_of notified) seat.new)
             (λ busy. FindsHeldAfterLooks seat.old seat.new) }
@@ -89,12 +87,12 @@ impl NotifyList {
         if quiet {
             return Ok(None);
         }
-        self.try_one_at_lock(seat)
+        self.try_one_at_lock::<N>(seat)
     }
 
     /// The rows from O3 on, if the lock is found free.
     #[inline(never)]
-    fn try_one_at_lock(&self, seat: &mut ListSeat) -> Result<Option<Notified>, Busy>
+    fn try_one_at_lock<N: Kernel>(&self, seat: &mut ListSeat) -> Result<Option<Notified>, Busy>
         requires seat { seat.old.list ≡ self.now }
         requires place { (h : ℕ) × (seat.old.sight.stands.place ≡ NotifyingOne h O3) }
         ensures rows { (h : ℕ) → seat.old.sight.stands.place ≡ NotifyingOne h O3
@@ -104,13 +102,13 @@ impl NotifyList {
         ensures lawful { Follows seat.new.sight.seen }
     {
         if self.try_lock(&mut seat.token) {
-            return Ok(self.grant_least(&mut seat.token));
+            return Ok(self.grant_least::<N>(&mut seat.token));
         }
         Err(Busy)
     }
 
-    /// The rows from O4 on, under the lock, which is given back. Nobody is woken.
-    fn grant_least(&self, token: &mut Token) -> Option<Notified>
+    /// The rows from O4 on, under the lock, which is given back. The seat that is granted is woken.
+    fn grant_least<N: Kernel>(&self, token: &mut Token) -> Option<Notified>
         requires { (s : Before) × (n : ℕ) × (h : ℕ) × MayNotify self.now s n h token.old }
         ensures rows { (s : Before) (n h : ℕ) → MayNotify self.now s n h token.old
             → EndsOne (seat_of s n) h (ticket_of result) (seat_of token.new n) × IsSeat token.new n }
@@ -121,29 +119,10 @@ impl NotifyList {
         // would grant it twice and leave the next one out.
         let ticket = self.words.load::<Here>(token, NOTIFY);
         if self.words.load::<Here>(token, WAIT) == ticket {
-            self.words.return_lock(token, LOCK);
+            self.words.give_lock::<N>(token, LOCK, self.sleepers_word());
             return None;
         }
-        let seat = self.grant_one(token, ticket);
+        let seat = self.grant_one::<N>(token, ticket);
         Some(Notified { ticket, seat })
-    }
-
-    /// Wakes who sleeps at the lock, which was given back, and the seat that was granted last.
-    fn wake_notified(&self, token: &Token, notified: &Option<Notified>)
-        requires own { list_of token.now ≡ self.now }
-        requires granted { HasGranted self.now notified.now token.now }
-    {
-        self.rouse_at_lock(token);
-        if let Some(
-            Notified {
-                ticket: _,
-                seat: Some(seat),
-            },
-        ) = notified
-        {
-            let seat = u32::from(*seat);
-            self.words
-                .rouse(token, grant_word(seat), self.asleep_word(seat), 1);
-        }
     }
 }

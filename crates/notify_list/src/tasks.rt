@@ -17,6 +17,7 @@ use crate::setup_error::SetupError;
 use crate::task_answers::{TaskEntered, TaskGaveUp, TaskPolled, TaskRefused};
 use crate::task_seat::{Stage, TaskListSeat};
 use crate::waited::{Entered, GaveUp, Polled};
+use running_rows::NoThreads;
 use std::alloc::{AllocError, Global};
 use std::marker::Model;
 
@@ -116,7 +117,7 @@ impl TaskList {
             number,
             ticket,
         };
-        match self.list.wait_silently(holding) {
+        match self.list.try_wait_with::<NoThreads>(holding) {
             Ok(Entered::AtOnce(seat)) => (TaskListSeat::resting(seat), Ok(TaskEntered::AtOnce)),
             Ok(Entered::Queued(parked)) => (TaskListSeat::parked(parked), Ok(TaskEntered::Queued)),
             Err(holding) => (TaskListSeat::holding(holding), Err(TaskRefused::Busy)),
@@ -157,7 +158,7 @@ impl TaskList {
             number,
             may_leave,
         };
-        match self.list.leave_silently(parked) {
+        match self.list.try_leave_with::<NoThreads>(parked) {
             Ok(GaveUp::Left(seat)) => (TaskListSeat::resting(seat), Ok(TaskGaveUp::Left)),
             Ok(GaveUp::Coming(parked)) => (TaskListSeat::parked(parked), Ok(TaskGaveUp::Coming)),
             Ok(GaveUp::Granted(seat)) => (TaskListSeat::resting(seat), Ok(TaskGaveUp::Granted)),
@@ -178,7 +179,7 @@ impl TaskList {
         };
         let TaskListSeat { token, number, .. } = seat;
         let mut seat = ListSeat { token, number };
-        match self.list.one_silently(&mut seat) {
+        match self.list.try_one_with::<NoThreads>(&mut seat) {
             Ok(notified) => (TaskListSeat::resting(seat), Ok(notified)),
             Err(_) => (TaskListSeat::resting(seat), Err(TaskRefused::Busy)),
         }
@@ -200,7 +201,10 @@ impl TaskList {
             return (seat, Err(TaskRefused::OtherCall));
         };
         let TaskListSeat { token, number, .. } = seat;
-        match self.list.all_silently(ListSeat { token, number }, woken) {
+        match self
+            .list
+            .try_all_with::<NoThreads>(ListSeat { token, number }, woken)
+        {
             Ok((seat, all)) => (TaskListSeat::resting(seat), Ok(all)),
             Err(owing) => (TaskListSeat::owing_all(owing), Err(TaskRefused::Busy)),
         }
@@ -221,7 +225,10 @@ impl TaskList {
             return (seat, Err(TaskRefused::OtherCall));
         };
         let TaskListSeat { token, number, .. } = seat;
-        match self.list.go_on_silently(OwingAll { token, number }, woken) {
+        match self
+            .list
+            .retry_all_with::<NoThreads>(OwingAll { token, number }, woken)
+        {
             Ok((seat, all)) => (TaskListSeat::resting(seat), Ok(all)),
             Err(owing) => (TaskListSeat::owing_all(owing), Err(TaskRefused::Busy)),
         }

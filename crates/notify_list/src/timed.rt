@@ -11,16 +11,9 @@ use crate::rows::Token;
 use crate::seat::{Holding, ListSeat, Parked};
 use crate::waited::{Entered, GaveUp, Polled, Waited, WaitedUntil};
 use crate::waits::PATIENCE;
+use running_rows::time_left;
 use std::sync::Wait;
 use std::time::{Clock, Duration, Instant};
-
-/// How much time is left until the deadline: none where the clock can't be read.
-fn time_left<R: Clock>(rt: &R, deadline: Instant) -> Duration {
-    match Instant::now(rt) {
-        Ok(now) => deadline.saturating_duration_since(now),
-        Err(_) => Duration::ZERO,
-    }
-}
 
 impl NotifyList {
     /// As `wait`, until the deadline: where the ticket isn't granted then, the seat leaves. A deadline that has
@@ -147,7 +140,7 @@ impl NotifyList {
     }
 
     /// Returns once something is granted to the seat or so much time is over, and perhaps before.
-    #[tactic(auto, using(crate::proofs::Owned::aside_in))]
+    #[tactic(auto, using(crate::proofs::Owned::grant_futex, crate::proofs::Owned::beside))]
     fn await_grant<R: Wait>(&self, rt: &R, token: &mut Token, seat: u16, longest: Duration)
         requires own { list_of token.old ≡ self.now }
         requires there { seat < self.now.setting.seats }

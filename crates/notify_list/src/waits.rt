@@ -11,7 +11,7 @@ use crate::notify_list::{LOCK, NOTIFY, NotifyList, WAIT, grant_word};
 use crate::rows::Token;
 use crate::seat::{Holding, ListSeat, Parked};
 use crate::waited::{Entered, Waited};
-use running_rows::{GivesWay, Here, Patience};
+use running_rows::{Futexes, GivesWay, Here, Kernel, Patience};
 use std::sync::Wait;
 use step_table::less;
 use waiters::{SeatId, WaitId};
@@ -52,9 +52,7 @@ impl NotifyList {
             ticket,
         } = holding;
         self.lock(rt, &mut token);
-        let entered = self.enter(token, number, ticket);
-        self.rouse_after_entering(&entered);
-        entered
+        self.enter::<Futexes>(token, number, ticket)
     }
 
     /// The same for a caller that must not wait: where the list's lock stays held, the seat
@@ -64,23 +62,11 @@ impl NotifyList {
         ensures rows { MatchResult result (λ entered. IsEntered holding entered) (λ kept. FindsHeld holding kept) }
         ensures caller { MatchResult result (λ entered. EntersWait holding entered) (λ kept. StandsOn holding kept) }
     {
-        let tried = self.wait_silently(holding);
-        if let Ok(entered) = &tried {
-            self.rouse_after_entering(entered);
-        }
-        tried
+        self.try_wait_with::<Futexes>(holding)
     }
 
-    /// Wakes one thread that sleeps at the lock, which was given back.
-    fn rouse_after_entering(&self, entered: &Entered) {
-        match entered {
-            Entered::AtOnce(seat) => self.rouse_at_lock(&seat.token),
-            Entered::Queued(parked) => self.rouse_at_lock(&parked.token),
-        }
-    }
-
-    /// The same, and nobody is woken.
-    pub(crate) fn wait_silently(&self, holding: Holding) -> Result<Entered, Holding>
+    /// The same, where threads sleep, or none does.
+    pub(crate) fn try_wait_with<N: Kernel>(&self, holding: Holding) -> Result<Entered, Holding>
         requires { holding.list ≡ self.now }
         ensures rows { MatchResult result (λ entered. IsEntered holding entered) (λ kept. FindsHeld holding kept) }
         ensures caller { MatchResult result (λ entered. EntersWait holding entered) (λ kept. StandsOn holding kept) }
@@ -91,7 +77,7 @@ impl NotifyList {
             ticket,
         } = holding;
         if self.try_lock(&mut token) {
-            return Ok(self.enter(token, number, ticket));
+            return Ok(self.enter::<N>(token, number, ticket));
         }
         Err(Holding {
             token,
@@ -100,8 +86,8 @@ impl NotifyList {
         })
     }
 
-    /// The rows of a wait from W2 on, under the lock, which is given back. Nobody is woken.
-    fn enter(&self, token: Token, number: u16, ticket: u64) -> Entered
+    /// The rows of a wait from W2 on, under the lock, which is given back.
+    fn enter<N: Kernel>(&self, token: Token, number: u16, ticket: u64) -> Entered
         requires { (s : Before) × MayEnter self.now s number ticket token }
         ensures rows { (s : Before) → MayEnter self.now s number ticket token
             → IsEntered (seat_of s number) result }
@@ -113,7 +99,8 @@ impl NotifyList {
         // lock, a ticket that was granted in between would sleep for good.
         let notified = self.words.load::<Here>(&mut token, NOTIFY);
         if less(ticket, notified) {
-            self.words.return_lock(&mut token, LOCK);
+            self.words
+                .give_lock::<N>(&mut token, LOCK, self.sleepers_word());
             return Entered::AtOnce(ListSeat { token, number });
         }
         let seat = SeatId::new(number);
@@ -122,7 +109,8 @@ impl NotifyList {
         // wait.
         let may_leave = self.may_leave(&mut token, ticket);
         self.insert(&mut token, waiters::Wait { id, ticket });
-        self.words.return_lock(&mut token, LOCK);
+        self.words
+            .give_lock::<N>(&mut token, LOCK, self.sleepers_word());
         Entered::Queued(Parked {
             token,
             number,

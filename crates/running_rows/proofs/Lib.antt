@@ -1,3 +1,7 @@
+pub mod Serving
+pub mod FutexSteps
+pub mod Dealing
+pub mod Holding
 pub mod Places
 pub mod History
 pub mod Keeping

@@ -9,12 +9,14 @@ use Rattle.atomic_table.proofs.Lists.{at_set}
 use Rattle.running_rows.specs.declared.view.View.{View}
 use Rattle.running_rows.specs.declared.view.Seated.{Seated}
 use Rattle.running_rows.specs.Family.{Family}
-use Rattle.running_rows.specs.Rule.{IsSomeones, HasSeat, In, AreApart, Sits, HasSeats, IsKept}
+use Rattle.running_rows.specs.Rule.{IsSomeones, HasSeat, In, AreApart, Sits, HasSeats, IsKept, AreServed, Holds}
 use Rattle.running_rows.specs.Owing.{Stands, Sees, IsSeen}
 use Rattle.running_rows.specs.Sitting.{other_guests, Met, MetAt}
 use Rattle.running_rows.specs.History.{strides_of}
 use Rattle.running_rows.proofs.History.{HasGoneOn, gone_on, looked_on}
+use Rattle.running_rows.specs.Futex.{IsServedYet}
 use Rattle.running_rows.proofs.Places.{replaced}
+use Rattle.running_rows.proofs.Dealing.{parkings_kept}
 
 module _ {S V T K : Type 0} (f : Family S V T K) (k : f.Key) where
   -- a seat and its first guest look at one moment
@@ -152,21 +154,27 @@ module _ {S V T K : Type 0} (f : Family S V T K) (k : f.Key) where
 
   pub meets_kept : (slots id i : ℕ) (m : Me S (View V T)) (g : Seated V T) (gs : List (Seated V T))
       → m.0.guests ≡ g ∷ gs → IsSomeones f m.0 → IsSeen f k i
-      → Allows (IsKept f k) slots id m i (λ n. n) (λ n t. MetAt f i m n t)
+      → Allows (Holds f k) slots id m i (λ n. n) (λ n t. MetAt f i m n t)
   meets_kept slots id i m g gs with_it some_v seen s r sized at below = (
-    now i m g gs with_it some_v seen s r id at below,
+    now i m g gs with_it some_v seen s r.kept id at below,
     keeps,
     tt,
-    kept i m g gs with_it some_v seen s r id at below,
+    record {
+      kept = kept i m g gs with_it some_v seen s r.kept id at below;
+      served = subst (λ (ws : List ℕ). AreServed f k ws (set s.views id (now i m g gs with_it some_v seen s r.kept id at below))) (sym (set-get_or s.words i 0))
+          (λ x is. subst (IsServedYet x s.words)
+          (sym (parkings_kept s.views id m.0 (now i m g gs with_it some_v seen s r.kept id at below) at refl)) (r.served x is));
+      futexes = r.futexes;
+    },
     (λ h hs is. let e = first_is g h gs hs (sym with_it ∙ is) in (
-      (other i m g gs with_it some_v seen s r id at below).now,
+      (other i m g gs with_it some_v seen s r.kept id at below).now,
       subst (λ (y : Seated V T). Met f (f.word_at (f.of m.0.own.knows) i) m.0.own y (slice_index s.words i)
-          (one i m g gs with_it some_v seen s r id at below).now (other i m g gs with_it some_v seen s r id at below).now) e.0
-          (met i m g gs with_it some_v seen s r id at below),
+          (one i m g gs with_it some_v seen s r.kept id at below).now (other i m g gs with_it some_v seen s r.kept id at below).now) e.0
+          (met i m g gs with_it some_v seen s r.kept id at below),
       (λ n. (
         record m.0 {
-          own = (one i m g gs with_it some_v seen s r id at below).now;
-          guests = (other i m g gs with_it some_v seen s r id at below).now ∷ e.1 n;
+          own = (one i m g gs with_it some_v seen s r.kept id at below).now;
+          guests = (other i m g gs with_it some_v seen s r.kept id at below).now ∷ e.1 n;
         },
         m.1,
       )),

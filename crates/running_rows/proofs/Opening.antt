@@ -11,10 +11,13 @@ use Rattle.step_table.specs.World.{put}
 use Rattle.step_table.proofs.Sums.{put_here, put_else}
 use Rattle.running_rows.specs.declared.view.View.{View}
 use Rattle.running_rows.specs.declared.view.Seated.{Seated}
+use Rattle.running_rows.specs.declared.parking.Parking.{Parking}
+use Rattle.running_rows.specs.Futex.{Futex, AreWithin, fresh_parking}
+use Rattle.running_rows.proofs.Dealing.{splits_hold}
 use Rattle.running_rows.specs.Family.{Family}
 use Rattle.running_rows.proofs.Places.{replaced, longer}
 use Rattle.running_rows.proofs.History.{strides_none}
-use Rattle.running_rows.specs.Rule.{IsSomeones, IsSeated, fresh_seat, first_view, making, made_by, Sits, HasSeats, IsKept, Opens}
+use Rattle.running_rows.specs.Rule.{IsSomeones, IsSeated, fresh_seat, first_view, making, made_by, Sits, HasSeats, IsKept, Holds, Opens}
 
 pub at_end : {A : Type 0} (l : List A) (a b : A) (j : ℕ) → get_elem? (l ++ a ∷ []) j ≡ some b
     → (get_elem? l j ≡ some b) ⊎ ((j ≡ length l) × (a ≡ b))
@@ -24,8 +27,8 @@ at_end (x ∷ xs) a b zero e = inl e
 at_end (x ∷ xs) a b (suc j) e = ⊎_elim (λ t. inl t) (λ t. inr (ap suc t.0, t.1)) (at_end xs a b j e)
 
 module _ {S V T K : Type 0} (f : Family S V T K) where
-  pub opens : (k : f.Key) (words : List ℕ) (slots : List S) → Opens f k words (map some slots) → IsKept f k (opening words slots (first_view f k))
-  opens k words slots o = record {
+  opens_kept : (k : f.Key) (words : List ℕ) (slots : List S) → Opens f k words (map some slots) → IsKept f k (opening words slots (first_view f k))
+  opens_kept k words slots o = record {
     world = o.world;
     shows = o.shows;
     history = [];
@@ -57,6 +60,22 @@ module _ {S V T K : Type 0} (f : Family S V T K) where
         apart = tt;
       })
       one (suc j) v e = absurd (some-ne-none v (sym e))
+
+  pub opens : (k : f.Key) (words : List ℕ) (slots : List S) → Opens f k words (map some slots) → Holds f k (opening words slots (first_view f k))
+  opens k words slots o = record {
+    kept = opens_kept k words slots o;
+    served = λ x is none. record {
+      counted = o.none_sleep x is;
+      taken = omega arith;
+      stored = λ j v e. nothing_stored x (suc 0) j v e;
+      called = λ left j v e. nothing_stored x 0 j v e;
+    };
+    futexes = o.futexes;
+  }
+    where
+      nothing_stored : (x : Futex) (n j : ℕ) (v : Parking) → get_elem? (fresh_parking ∷ []) j ≡ some v → AreWithin x.word n v.stored
+      nothing_stored x n zero v e = subst (λ (u : Parking). AreWithin x.word n u.stored) (some-injective fresh_parking v e) tt
+      nothing_stored x n (suc j) v e = absurd (some-ne-none v (sym e))
 
   -- the seat 0 makes the next one
   module _ (k : f.Key) (id : ℕ) (v : View V T) (some_made : 0 < v.made) (room : v.made < f.seats (f.of v.own.knows)) (s : State S (View V T))
@@ -150,5 +169,6 @@ module _ {S V T K : Type 0} (f : Family S V T K) where
     }
 
   pub splits : (k : f.Key) (id : ℕ) (v : View V T) → 0 < v.made → v.made < f.seats (f.of v.own.knows)
-      → Splits (IsKept f k) id v (making v) (made_by f v)
-  splits k id v some_made room s r at = made_one k id v some_made room s r at
+      → Splits (Holds f k) id v (making v) (made_by f v)
+  splits k id v some_made room =
+      splits_hold f k id v (making v) (made_by f v) refl refl (λ s r at. made_one k id v some_made room s r at)

@@ -12,9 +12,11 @@ use Rattle.step_table.proofs.Sums.{put_here, put_else}
 use Rattle.running_rows.specs.declared.view.View.{View}
 use Rattle.running_rows.specs.declared.view.Seated.{Seated}
 use Rattle.running_rows.specs.Family.{Family}
-use Rattle.running_rows.specs.Rule.{IsSomeones, IsSeated, HasSeat, In, AreApart, Sits, HasSeats, IsKept}
+use Rattle.running_rows.specs.Rule.{IsSomeones, IsSeated, HasSeat, In, AreApart, Sits, HasSeats, IsKept, Holds}
 use Rattle.running_rows.specs.Sitting.{lone, other_guests, first_guest, parting, parted}
+use Rattle.running_rows.specs.Futex.{fresh_parking}
 use Rattle.running_rows.proofs.Opening.{at_end}
+use Rattle.running_rows.proofs.Dealing.{splits_hold}
 use Rattle.running_rows.proofs.Places.{replaced, longer}
 use Rattle.running_rows.proofs.Seating.{is_at, respotted, sits_at}
 
@@ -98,9 +100,18 @@ module _ {S V T K : Type 0} (f : Family S V T K) (k : f.Key) where
         (at_end before (lone g) u j e))
         seated_parted
 
-  pub parts_kept : (id : ℕ) (v : View V T) (g : Seated V T) (gs : List (Seated V T)) → v.guests ≡ g ∷ gs → IsSomeones f v
+  parts_so : (id : ℕ) (v : View V T) (g : Seated V T) (gs : List (Seated V T)) → v.guests ≡ g ∷ gs → IsSomeones f v
       → Splits (IsKept f k) id v (parting v) (parted f v)
-  parts_kept id v g gs with_it some_v s r at =
+  parts_so id v g gs with_it some_v s r at =
       subst (λ (l : List (Seated V T)). IsKept f k
       (record { words = s.words; homes = s.homes; views = set s.views id (record v { guests = other_guests l }) ++ first_guest f l ∷ [] })) (sym with_it)
       (parts id v g gs with_it some_v s r at)
+
+  first_fresh : (gs : List (Seated V T)) → (first_guest f gs).parking ≡ fresh_parking
+  first_fresh [] = refl
+  first_fresh (g ∷ gs) = refl
+
+  pub parts_kept : (id : ℕ) (v : View V T) (g : Seated V T) (gs : List (Seated V T)) → v.guests ≡ g ∷ gs → IsSomeones f v
+      → Splits (Holds f k) id v (parting v) (parted f v)
+  parts_kept id v g gs with_it some_v =
+      splits_hold f k id v (parting v) (parted f v) refl (first_fresh v.guests) (parts_so id v g gs with_it some_v)

@@ -12,10 +12,12 @@ use Rattle.step_table.proofs.Sums.{put_here, put_else}
 use Rattle.running_rows.specs.declared.view.View.{View}
 use Rattle.running_rows.specs.declared.view.Seated.{Seated}
 use Rattle.running_rows.specs.Family.{Family}
-use Rattle.running_rows.specs.Rule.{IsSomeones, IsSeated, HasSeat, In, AreApart, nobody, Sits, HasSeats, IsKept}
+use Rattle.running_rows.specs.Rule.{IsSomeones, IsSeated, HasSeat, In, AreApart, nobody, Sits, HasSeats, IsKept, Holds}
 use Rattle.running_rows.specs.Sitting.{alone, leaving, guests_apart, staying, vacant, sitting}
 use Rattle.running_rows.specs.History.{SeatStride}
+use Rattle.running_rows.specs.Futex.{fresh_parking}
 use Rattle.running_rows.proofs.Opening.{at_end}
+use Rattle.running_rows.proofs.Dealing.{splits_hold, joins_hold}
 use Rattle.running_rows.proofs.Places.{at_low, same_at, replaced, longer, moved, moved_in, moved_else}
 
 module _ {S V T K : Type 0} (f : Family S V T K) (k : f.Key) where
@@ -54,14 +56,17 @@ module _ {S V T K : Type 0} (f : Family S V T K) (k : f.Key) where
   was_so s r j v e h = (r.views j v e h, r.maker j v e h)
 
   -- a token of no seat may be made
-  pub spares_kept : (id : ℕ) (v : View V T) → Splits (IsKept f k) id v (staying v) (vacant f v)
-  spares_kept id v s r at = respotted s r r.spot (set s.views id v ++ nobody f ∷ []) (λ j u e h. ⊎_elim
+  spares : (id : ℕ) (v : View V T) → Splits (IsKept f k) id v (staying v) (vacant f v)
+  spares id v s r at = respotted s r r.spot (set s.views id v ++ nobody f ∷ []) (λ j u e h. ⊎_elim
       (λ (was : get_elem? (set s.views id v) j ≡ some u). was_so s r j u
       (ap (λ (l : List (View V T)). get_elem? l j) (sym (set_again s.views id v at)) ∙ was) h)
       (λ (t : (j ≡ length (set s.views id v)) × (nobody f ≡ u)). absurd (nobody_not u t.1 h))
       (at_end (set s.views id v) (nobody f) u j e))
       (λ n low. longer f (set s.views id v) (nobody f) (r.spot n) n
       (subst (λ (l : List (View V T)). IsSeated f l (r.spot n) n) (sym (set_again s.views id v at)) (r.seated n low)))
+
+  pub spares_kept : (id : ℕ) (v : View V T) → Splits (Holds f k) id v (staying v) (vacant f v)
+  spares_kept id v = splits_hold f k id v (staying v) (vacant f v) refl refl (spares id v)
 
   -- the seats of a view sit at another place
   pub sits_at : (world : f.World) (history : List (SeatStride T)) (spot goes : ℕ → ℕ) (made j i : ℕ) (u : Seated V T)
@@ -98,7 +103,7 @@ module _ {S V T K : Type 0} (f : Family S V T K) (k : f.Key) where
       where
         by : (gs : List (Seated V T)) → v.guests ≡ gs → Is r.world r.history away r.made (length without) u
         by [] none = absurd (nobody_not u (sym (ap (guests_apart f) none) ∙ e) h)
-        by (x ∷ xs) is = is_at r.world r.history away r.made (length without) (length without) (record { own = x; guests = xs; made = 0 })
+        by (x ∷ xs) is = is_at r.world r.history away r.made (length without) (length without) (record { own = x; guests = xs; made = 0; parking = fresh_parking })
             u refl (sym (ap (guests_apart f) is) ∙ e) (
               record {
                 own = leaves x (inl refl);
@@ -169,8 +174,12 @@ module _ {S V T K : Type 0} (f : Family S V T K) (k : f.Key) where
         (at_end without (leaving f v) u j e))
         seated_apart
 
-  pub forgets_kept : (id : ℕ) (v : View V T) → IsSomeones f v → Splits (IsKept f k) id v (alone v) (leaving f v)
-  forgets_kept id v some_v s r at = apart_kept id v some_v s r at
+  apart_fresh : (gs : List (Seated V T)) → (guests_apart f gs).parking ≡ fresh_parking
+  apart_fresh [] = refl
+  apart_fresh (g ∷ gs) = refl
+
+  pub forgets_kept : (id : ℕ) (v : View V T) → IsSomeones f v → Splits (Holds f k) id v (alone v) (leaving f v)
+  forgets_kept id v some_v = splits_hold f k id v (alone v) (leaving f v) refl (apart_fresh v.guests) (λ s r at. apart_kept id v some_v s r at)
 
   -- a seat comes to sit with another
   module _ (id : ℕ) (v : View V T) (other : ℕ) (w : View V T) (some_v : IsSomeones f v) (some_w : IsSomeones f w) (s : State S (View V T))
@@ -255,5 +264,6 @@ module _ {S V T K : Type 0} (f : Family S V T K) (k : f.Key) where
         seated_both
 
   pub sits_kept : (id : ℕ) (v : View V T) (other : ℕ) (w : View V T) → IsSomeones f v → IsSomeones f w → w.guests ≡ []
-      → Joins (IsKept f k) id v other w (sitting v w) (nobody f)
-  sits_kept id v other w some_v some_w lone_w s r at apart theirs = joined id v other w some_v some_w s r at lone_w apart theirs
+      → Joins (Holds f k) id v other w (sitting v w) (nobody f)
+  sits_kept id v other w some_v some_w lone_w = joins_hold f k id v other w (sitting v w) (nobody f) refl refl
+      (λ s r at apart theirs. joined id v other w some_v some_w s r at lone_w apart theirs)

@@ -3,6 +3,8 @@ use Rattle.std.proofs.Common.{◌≡◌, ℕ, ◌<◌, List, [], ◌∷◌, sym,
 use Rattle.atomic_table.specs.Table.{Me}
 use Rattle.running_rows.specs.declared.view.View.{View}
 use Rattle.running_rows.specs.declared.view.Seated.{Seated}
+use Rattle.running_rows.specs.declared.parking.Parking.{Parking}
+use Rattle.running_rows.specs.Futex.{joined as joined_parking}
 use Rattle.running_rows.specs.Family.{Family}
 use Rattle.running_rows.specs.Rule.{IsSomeones}
 use Rattle.running_rows.specs.Sitting.{lone, sitting, first_guest, parting, parted, Met, MetAt}
@@ -20,8 +22,12 @@ module _ {S V T K : Type 0} (f : Family S V T K) (s o t u : Me S (View V T)) (jo
   pub guests_u : u.0.guests ≡ guest ∷ s.0.guests
   guests_u = ap (λ (m : Me S (View V T)). m.0.guests) changed
 
+  -- what both have done with sleepers
+  abbrev pub both : Parking
+  both = joined_parking s.0.parking o.0.parking
+
   -- the first is as it was, but for what it saw
-  pub left : ◌≡◌ {A = Me S (View V T)} (parting u.0, u.1) (record s.0 { own = u.0.own }, s.1)
+  pub left : ◌≡◌ {A = Me S (View V T)} (parting u.0, u.1) (record s.0 { own = u.0.own; parking = both }, s.1)
   left = (λ j. (record (parting (changed j).0) { own = u.0.own }, (changed j).1))
       ∙ (λ j. (record (joined j).0 { own = u.0.own; guests = s.0.guests }, (joined j).1))
 
@@ -41,6 +47,9 @@ module _ {S V T K : Type 0} (f : Family S V T K) (s o t u : Me S (View V T)) (jo
     own_a : a.0.own ≡ u.0.own
     own_a = ap (λ (m : Me S (View V T)). m.0.own) left_is
 
+    parking_a : a.0.parking ≡ both
+    parking_a = ap (λ (m : Me S (View V T)). m.0.parking) (left_is ∙ left)
+
     alone_b : b ≡ (lone guest, [])
     alone_b = right_is ∙ right
 
@@ -51,8 +60,8 @@ module _ {S V T K : Type 0} (f : Family S V T K) (s o t u : Me S (View V T)) (jo
     met_at =
         subst (λ (y : Seated V T × Seated V T). Met f (f.word_at (f.of s.0.own.knows) i) s.0.own o.0.own n y.0 y.1) (λ j. (sym own_a j, sym own_b j)) met
 
-    pub left_at : a ≡ (record s.0 { own = a.0.own }, s.1)
-    left_at = left_is ∙ left ∙ (λ j. (record s.0 { own = sym own_a j }, s.1))
+    pub left_at : a ≡ (record s.0 { own = a.0.own; parking = a.0.parking }, s.1)
+    left_at = left_is ∙ left ∙ (λ j. (record s.0 { own = sym own_a j; parking = sym parking_a j }, s.1))
 
     pub right_at : b ≡ (lone b.0.own, [])
     right_at = alone_b ∙ (λ j. (lone (sym own_b j), []))

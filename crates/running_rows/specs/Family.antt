@@ -4,6 +4,7 @@ use Rattle.std.specs.Prelude.{◌≡◌, ℕ, List}
 use mathlib.Core.Option.{Option}
 use Rattle.step_table.specs.Path.{Watched, Sight, Stride}
 use Rattle.running_rows.specs.declared.view.Seated.{Seated}
+use Rattle.running_rows.specs.Futex.{Futex}
 
 -- S lies in a slot, V is what a seat knows, T a stride as a view keeps it, K what the words were made with
 pub record Family (S V T K : Type 0) : Type 1 where
@@ -40,5 +41,9 @@ pub record Family (S V T K : Type 0) : Type 1 where
   pub HasStored : Key → T → ℕ → ℕ → Type 0
   -- the stride gave back the record that was taken last: the first of these slots, which the seat held
   pub HasGiven : T → List (ℕ × S) → Type 0
+  -- where threads sleep in the kernel
+  pub IsFutex : Key → Futex → Type 0
+  -- a seat that knows this may store a grant, and leave it to another to wake who sleeps there
+  pub MayPass : V → Type 0
   pub fresh_is : (k : Key) → of (fresh k) ≡ k
   pub nobody_is : seats (of nobody) ≡ 0

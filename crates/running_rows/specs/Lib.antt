@@ -1,3 +1,5 @@
+pub mod Futex
+pub mod Parking
 pub mod Family
 pub mod Strides
 pub mod History

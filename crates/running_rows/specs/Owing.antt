@@ -6,6 +6,7 @@ use Rattle.step_table.specs.Path.{looks}
 use Rattle.running_rows.specs.declared.view.View.{View}
 use Rattle.running_rows.specs.declared.view.Seated.{Seated}
 use Rattle.running_rows.specs.Family.{Family}
+use Rattle.running_rows.specs.Futex.{Futex, lock_at, grant_at}
 use Rattle.running_rows.specs.History.{TellsOn}
 use Rattle.running_rows.specs.Strides.{Went, becomes, here}
 
@@ -56,6 +57,17 @@ module _ {S V T K : Type 0} (f : Family S V T K) (k : f.Key) where
       (world : f.World) (words : List ℕ) (homes : List (Option S)) (u : Seated V T)
       → Stands u world words homes i
       → Sees u world i (slice_index words i)
+
+  -- no thread ever sleeps at the word, and none counts sleepers there
+  abbrev pub IsPlain : ℕ → Type 0
+  IsPlain i = (x : Futex) → f.IsFutex k x → (x.word ≢ i) × (x.sleepers ≢ i)
+
+  -- the word is a lock, or a grant, at which threads sleep
+  abbrev pub IsLock : ℕ → Type 0
+  IsLock i = (sleepers : ℕ) × f.IsFutex k (lock_at i sleepers)
+
+  abbrev pub IsGrant : ℕ → Type 0
+  IsGrant i = (sleepers : ℕ) × f.IsFutex k (grant_at i sleepers)
 
   -- the world knows nothing of the word
   abbrev pub IsAside : ℕ → Type 0

@@ -1,10 +1,12 @@
 -- The rule: words and records show a world of the family, and each view is that of its seats.
-use Rattle.std.specs.Prelude.{◌≡◌, ◌≢◌, ◌⊎◌, ℕ, ◌+◌, ◌<◌, ◌≤◌, List, [], ◌∷◌}
+use Rattle.std.specs.Prelude.{◌≡◌, ◌≢◌, ◌⊎◌, ℕ, ◌+◌, ◌<◌, ◌≤◌, List, [], ◌∷◌, length, slice_index, slice_set}
 use mathlib.Core.Option.{Option, some}
 use lib.ListN.{get_elem?}
 use Rattle.atomic_table.specs.Table.{State}
 use Rattle.running_rows.specs.declared.view.View.{View}
 use Rattle.running_rows.specs.declared.view.Seated.{Seated}
+use Rattle.running_rows.specs.declared.parking.Parking.{Parking}
+use Rattle.running_rows.specs.Futex.{Futex, ShareNoWord, IsServedYet, IsLeft, IsCalledSince, fresh_parking, sum, overflowed}
 use Rattle.running_rows.specs.Family.{Family}
 use Rattle.running_rows.specs.History.{SeatStride, strides_of, Writes, journal_of}
 
@@ -22,6 +24,11 @@ AreApart {V} {T} (g ∷ gs) = ((h : Seated V T) → In h gs → h.number ≢ g.n
 abbrev pub HasSeat : {V T : Type 0} → ℕ → View V T → Type 0
 HasSeat {V} {T} n v = (v.own.number ≡ n) ⊎ ((g : Seated V T) × In g v.guests × (g.number ≡ n))
 
+-- what each thread has to do with sleepers
+abbrev pub parkings : {V T : Type 0} → List (View V T) → List Parking
+parkings [] = []
+parkings (v ∷ vs) = v.parking ∷ parkings vs
+
 -- the seat 0 makes the others, in order
 abbrev pub making : {V T : Type 0} → View V T → View V T
 making v = record v { made = v.made + 1 }
@@ -32,14 +39,14 @@ module _ {S V T K : Type 0} (f : Family S V T K) where
   fresh_seat k number = record { number = number; knows = f.fresh k; gone = [] }
 
   abbrev pub first_view : f.Key → View V T
-  first_view k = record { own = fresh_seat k 0; guests = []; made = 1 }
+  first_view k = record { own = fresh_seat k 0; guests = []; made = 1; parking = fresh_parking }
 
   abbrev pub made_by : View V T → View V T
-  made_by v = record { own = fresh_seat (f.of v.own.knows) v.made; guests = []; made = 0 }
+  made_by v = record { own = fresh_seat (f.of v.own.knows) v.made; guests = []; made = 0; parking = fresh_parking }
 
   -- the view that is left of a token whose seats have gone to another
   abbrev pub nobody : View V T
-  nobody = record { own = record { number = 0; knows = f.nobody; gone = [] }; guests = []; made = 0 }
+  nobody = record { own = record { number = 0; knows = f.nobody; gone = [] }; guests = []; made = 0; parking = fresh_parking }
 
   -- the view of a seat: its words have seats
   abbrev pub IsSomeones : View V T → Type 0
@@ -85,6 +92,32 @@ module _ {S V T K : Type 0} (f : Family S V T K) where
         → (v.own.number ≡ 0) × (v.made ≡ made)
     pub fits : made ≤ f.seats k
 
+  -- the words of futexes are there, and apart, and the world knows nothing of a count of sleepers
+  pub record AreFutexes (k : f.Key) : Type 0 where
+    pub two : (x : Futex) → f.IsFutex k x → x.word ≢ x.sleepers
+    pub apart : (x y : Futex) → f.IsFutex k x → f.IsFutex k y → (x ≡ y) ⊎ ShareNoWord x y
+    pub there : (x : Futex) (world : f.World) (words : List ℕ) (homes : List (Option S)) → f.IsFutex k x
+        → f.Shows k world words homes → (x.word < length words) × (x.sleepers < length words)
+    pub unseen : (x : Futex) (world : f.World) (words : List ℕ) (homes : List (Option S)) (n : ℕ) → f.IsFutex k x
+        → f.Shows k world words homes → f.Shows k world (slice_set words x.sleepers n) homes
+
+  -- the rule of sleepers, at each futex
+  abbrev pub AreServed : f.Key → List ℕ → List (View V T) → Type 0
+  AreServed k words views = (x : Futex) → f.IsFutex k x → IsServedYet x words (parkings views)
+
+  -- both rules
+  pub record Holds (k : f.Key) (s : State S (View V T)) : Type 0 where
+    pub kept : IsKept k s
+    pub served : AreServed k s.words s.views
+    pub futexes : AreFutexes k
+
+  -- no sleeper of a futex is lost: where threads sleep there though the word lets them go, nobody is between a store
+  -- there and the look whom to wake, and each grant whose wake-up was left to another has been taken, the kernel was
+  -- called there since each store. It may be otherwise once 2^64 threads were counted there at one time
+  abbrev pub NoSleeperIsLost : f.Key → State S (View V T) → Futex → Type 0
+  NoSleeperIsLost k s x =
+      sum (overflowed x) (parkings s.views) ≡ 0 → IsLeft x s.words (parkings s.views) → IsCalledSince x (parkings s.views)
+
   -- words and records as they are made show a world of an empty journal, that each seat may meet which has
   -- run nothing
   pub record Opens (k : f.Key) (words : List ℕ) (homes : List (Option S)) : Type 0 where
@@ -93,3 +126,5 @@ module _ {S V T K : Type 0} (f : Family S V T K) where
     pub unwritten : journal_of f k world ≡ []
     pub unmade : (n : ℕ) → n < f.seats k → f.Knows k (fresh_seat k n) world
     pub some_seats : 0 < f.seats k
+    pub futexes : AreFutexes k
+    pub none_sleep : (x : Futex) → f.IsFutex k x → slice_index words x.sleepers ≡ 0

@@ -7,6 +7,7 @@ use Rattle.running_rows.specs.declared.view.Seated.{Seated}
 use Rattle.running_rows.specs.Family.{Family}
 use Rattle.running_rows.specs.Strides.{Went, here}
 use Rattle.running_rows.specs.Rule.{nobody}
+use Rattle.running_rows.specs.Futex.{fresh_parking, joined}
 
 module _ {V T : Type 0} where
   abbrev pub staying : View V T → View V T
@@ -18,11 +19,11 @@ module _ {V T : Type 0} where
 
   -- a view of this seat alone, which makes no other
   abbrev pub lone : Seated V T → View V T
-  lone u = record { own = u; guests = []; made = 0 }
+  lone u = record { own = u; guests = []; made = 0; parking = fresh_parking }
 
   -- the seat of the second view sits with the first
   abbrev pub sitting : View V T → View V T → View V T
-  sitting v w = record v { guests = w.own ∷ v.guests }
+  sitting v w = record v { guests = w.own ∷ v.guests; parking = joined v.parking w.parking }
 
   -- all guests but the first
   abbrev pub other_guests : List (Seated V T) → List (Seated V T)
@@ -39,7 +40,7 @@ module _ {S V T K : Type 0} (f : Family S V T K) where
   -- the guests have a view of their own
   abbrev pub guests_apart : List (Seated V T) → View V T
   guests_apart [] = nobody f
-  guests_apart (g ∷ gs) = record { own = g; guests = gs; made = 0 }
+  guests_apart (g ∷ gs) = record { own = g; guests = gs; made = 0; parking = fresh_parking }
 
   abbrev pub leaving : View V T → View V T
   leaving v = guests_apart v.guests

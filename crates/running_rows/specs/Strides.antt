@@ -5,6 +5,9 @@ use Rattle.step_table.specs.Path.{Deed, runs, looks, Ran}
 use Rattle.running_rows.specs.declared.view.View.{View}
 use Rattle.running_rows.specs.declared.view.Seated.{Seated}
 use Rattle.running_rows.specs.Family.{Family}
+use Rattle.running_rows.specs.declared.parking.Stage.{Stage}
+use Rattle.running_rows.specs.declared.parking.Stage.TheVariants.{Wants}
+use Rattle.running_rows.specs.Parking.{back_at, dealing, standing, owing_at}
 
 -- as it stood
 abbrev pub here : {V : Type 0} → V → V
@@ -26,8 +29,9 @@ module _ {S V T K : Type 0} (f : Family S V T K) where
   abbrev pub becomes : Me S (View V T) → Seated V T → List (ℕ × S) → Me S (View V T)
   becomes m w slots = (record m.0 { own = w }, slots)
 
+  -- the same, whatever its thread did meanwhile with sleepers: it owes nothing for that
   abbrev pub Changed : Me S (View V T) → List (ℕ × S) → Me S (View V T) → Type 0
-  Changed m slots t = t ≡ becomes m t.0.own slots
+  Changed m slots t = t ≡ (record m.0 { own = t.0.own; parking = back_at m.0.parking t.0.parking }, slots)
 
   -- a row that began so ran, and found n
   abbrev pub RanRow : (V → V) → Me S (View V T) → ℕ → Me S (View V T) → Type 0
@@ -56,6 +60,11 @@ module _ {S V T K : Type 0} (f : Family S V T K) where
   -- a lock that is held changes nothing
   abbrev pub runs_lock : (Step S → V → V) → Step S → Me S (View V T) → ℕ → Me S (View V T) → Type 0
   runs_lock at st m n t = (n ≢ 0 → t ≡ m) × (n ≡ 0 → Took (at st) m t)
+
+  -- the same by one who has slept there, and owes the lock a try: that is over
+  abbrev pub tries : (Step S → V → V) → Step S → Me S (View V T) → ℕ → Me S (View V T) → Type 0
+  tries at st m n t =
+      (rest : List Stage) → m.0.parking.stages ≡ Wants st.word ∷ rest → runs_lock at st (dealing (standing rest m.0.parking) m) n t
 
   -- a look found the lock held, and is a stride
   abbrev pub FoundHeld : ℕ → Me S (View V T) → Me S (View V T) → Type 0
@@ -90,3 +99,16 @@ module _ {S V T K : Type 0} (f : Family S V T K) where
 -- a word was written of which the world knows nothing, and nothing changed
 abbrev pub sets_aside : {S V T : Type 0} → Step S → Me S (View V T) → ℕ → Me S (View V T) → Type 0
 sets_aside st m x t = t ≡ m
+
+module _ {S V T K : Type 0} (f : Family S V T K) where
+  -- the row ran that stores, and its thread owes who sleeps there a look
+  pub record Owed (Ran : Me S (View V T) → Type 0) (st : Step S) (m t : Me S (View V T)) : Type 0 where
+    pub ran : Ran (dealing m.0.parking t)
+    pub number : ℕ
+    pub owes : t.0.parking ≡ owing_at st.word number m.0.parking
+
+  abbrev pub unlocks : (Step S → V → V) → Step S → Me S (View V T) → ℕ → Me S (View V T) → Type 0
+  unlocks at st m x t = Owed (runs_unlock_from f at st m x) st m t
+
+  abbrev pub grants : Step S → Me S (View V T) → ℕ → Me S (View V T) → Type 0
+  grants st m x t = Owed (runs_grant f st m x) st m t

@@ -15,12 +15,17 @@
 
 mod breaks;
 mod closing;
+mod deadlines;
 mod families;
+mod futexes;
 mod joins;
+mod kernel;
+mod laws;
 mod lends;
 mod locks;
 mod making;
 mod meeting;
+mod parking;
 mod plays;
 mod rule;
 mod running;
@@ -30,7 +35,11 @@ mod view;
 
 pub use atomic_table::{Closed, Refused, TableRule};
 pub use breaks::{BREAKS_END, FIRST_BREAK, make_break};
+pub use deadlines::time_left;
 pub use families::{Here, Rows, Start};
+pub use kernel::{Futexes, Kernel, NoThreads};
+pub use laws::law_of_the_sleepers;
+pub use parking::{Mark, Parking, Stage};
 pub use rule::OneWorld;
 pub use running::Running;
 pub use sleeping::{GivesWay, Patience};

@@ -5,19 +5,24 @@
 //! sleeps; who gives the lock back stores 0 in it, then looks at the count. All four are in one order, the
 //! same for all threads: either the sleeper's look finds the lock free, or it was counted before the giver's
 //! look, which finds it and calls the kernel. So nobody sleeps at a free lock for good, and where nobody
-//! sleeps the kernel isn't called. A thread that comes meanwhile may take the lock first; who was woken looks
-//! again.
+//! sleeps the kernel isn't called. A thread that comes meanwhile may take the lock first; who has slept tries for
+//! the lock before its call ends, since it was woken in place of others.
 ghost use Rattle.std.specs.Prelude.{◌≡◌, ◌≢◌, ◌==◌, ◌<◌, MatchBool};
 ghost use mathlib.Core.Option.{none, some};
 ghost use prog.Atomic.{either};
 ghost use Rattle.atomic_table.specs.Table.{step};
-ghost use Rattle.running_rows.specs.Strides.{runs_lock, runs_lock_or_look, Took, FoundHeld, runs_unlock, runs_unlock_from};
+ghost use Rattle.running_rows.specs.Strides.{runs_lock, runs_lock_or_look, Took, FoundHeld, runs_unlock, runs_unlock_from, unlocks};
 ghost use Rattle.running_rows.specs.Rule.{IsSomeones};
-ghost use Rattle.running_rows.specs.Owing.{Owes, IsAside, IsSeen};
+ghost use Rattle.running_rows.specs.Owing.{Owes, IsLock, IsSeen};
+ghost use Rattle.running_rows.specs.Futex.{lock_at};
+ghost use Rattle.running_rows.specs.declared.parking.Stage.TheVariants.{Wants};
+ghost use Rattle.running_rows.specs.Parking.{at_stage, dealing, IsOwing};
 
 use crate::breaks::{BREAKS_END, FIRST_BREAK, make_break};
+use crate::deadlines::time_left;
 use crate::families::{Here, Rows, Start};
-use crate::plays::{RunsLock, RunsLockOrLook, RunsUnlock, SetsAside};
+use crate::kernel::Kernel;
+use crate::plays::{RunsLock, RunsLockOrLook, RunsTry, RunsUnlock};
 use crate::rule::OneWorld;
 use crate::running::Running;
 use crate::view::{Token, View};
@@ -30,14 +35,6 @@ use std::time::{Clock, Duration, Instant};
 const LOOKS: u32 = 100;
 /// How often a seat tries for a lock that it leaves where it stays held, with as many looks between two tries.
 const TRIES: u32 = 10;
-
-/// How much time is left until the deadline: none where there is no deadline, or the clock can't be read.
-fn time_left<C: Clock>(rt: &C, deadline: Option<Instant>) -> Duration {
-    match (deadline, Instant::now(rt)) {
-        (Some(deadline), Ok(now)) => deadline.saturating_duration_since(now),
-        _ => Duration::ZERO,
-    }
-}
 
 impl<S, V, T, K, R: Rows<S, V, T, K>> Running<S, View<V, T>, K, OneWorld<R>> {
     /// The row that takes a lock: it is run once the lock is found free, and what finds it held is no stride.
@@ -52,7 +49,7 @@ impl<S, V, T, K, R: Rows<S, V, T, K>> Running<S, View<V, T>, K, OneWorld<R>> {
             × IsSomeones R.family token.old.me.0 }
         requires words { (word < self.now.table.shared.table_id.words)
             × (sleepers < self.now.table.shared.table_id.words) }
-        requires aside { IsAside R.family (R.family.key self.now.table.shared.key) sleepers }
+        requires futex { R.family.IsFutex (R.family.key self.now.table.shared.key) (lock_at word sleepers) }
         requires owes { Owes R.family (R.family.key self.now.table.shared.key) token.old.me word
             (λ n. either (n == 0) 1 n)
             (runs_lock R.family A.at (step self.now.table.shared.table_id.slots word 0 1 none) token.old.me) }
@@ -69,7 +66,9 @@ impl<S, V, T, K, R: Rows<S, V, T, K>> Running<S, View<V, T>, K, OneWorld<R>> {
             {
                 return;
             }
-            self.await_lock(rt, token, word, sleepers, None);
+            if self.try_later::<A, W>(rt, token, word, sleepers, None) {
+                return;
+            }
         }
         unreachable!()
     }
@@ -87,7 +86,7 @@ impl<S, V, T, K, R: Rows<S, V, T, K>> Running<S, View<V, T>, K, OneWorld<R>> {
             × IsSomeones R.family token.old.me.0 }
         requires words { (word < self.now.table.shared.table_id.words)
             × (sleepers < self.now.table.shared.table_id.words) }
-        requires aside { IsAside R.family (R.family.key self.now.table.shared.key) sleepers }
+        requires futex { R.family.IsFutex (R.family.key self.now.table.shared.key) (lock_at word sleepers) }
         requires owes { Owes R.family (R.family.key self.now.table.shared.key) token.old.me word
             (λ n. either (n == 0) 1 n)
             (runs_lock R.family A.at (step self.now.table.shared.table_id.slots word 0 1 (some said.now))
@@ -106,7 +105,9 @@ impl<S, V, T, K, R: Rows<S, V, T, K>> Running<S, View<V, T>, K, OneWorld<R>> {
             {
                 return;
             }
-            self.await_lock(rt, token, word, sleepers, None);
+            if self.try_later_for::<A, W>(rt, token, word, sleepers, said) {
+                return;
+            }
         }
         unreachable!()
     }
@@ -125,7 +126,7 @@ impl<S, V, T, K, R: Rows<S, V, T, K>> Running<S, View<V, T>, K, OneWorld<R>> {
             × IsSomeones R.family token.old.me.0 }
         requires words { (word < self.now.table.shared.table_id.words)
             × (sleepers < self.now.table.shared.table_id.words) }
-        requires aside { IsAside R.family (R.family.key self.now.table.shared.key) sleepers }
+        requires futex { R.family.IsFutex (R.family.key self.now.table.shared.key) (lock_at word sleepers) }
         requires owes { Owes R.family (R.family.key self.now.table.shared.key) token.old.me word
             (λ n. either (n == 0) 1 n)
             (runs_lock R.family A.at (step self.now.table.shared.table_id.slots word 0 1 none) token.old.me) }
@@ -148,6 +149,7 @@ impl<S, V, T, K, R: Rows<S, V, T, K>> Running<S, View<V, T>, K, OneWorld<R>> {
         requires own { (token.old.table_id ≡ self.now.table.shared.table_id)
             × IsSomeones R.family token.old.me.0 }
         requires word { word < self.now.table.shared.table_id.words }
+        requires lock { IsLock R.family (R.family.key self.now.table.shared.key) word }
         requires owes { Owes R.family (R.family.key self.now.table.shared.key) token.old.me word
             (λ n. either (n == 0) 1 n)
             (runs_lock R.family A.at (step self.now.table.shared.table_id.slots word 0 1 none) token.old.me) }
@@ -170,6 +172,7 @@ impl<S, V, T, K, R: Rows<S, V, T, K>> Running<S, View<V, T>, K, OneWorld<R>> {
             × IsSomeones R.family token.old.me.0 }
         requires word { word < self.now.table.shared.table_id.words }
         requires seen { IsSeen R.family (R.family.key self.now.table.shared.key) word }
+        requires lock { IsLock R.family (R.family.key self.now.table.shared.key) word }
         requires owes { Owes R.family (R.family.key self.now.table.shared.key) token.old.me word
             (λ n. either (n == 0) 1 n)
             (runs_lock R.family A.at (step self.now.table.shared.table_id.slots word 0 1 none) token.old.me) }
@@ -206,6 +209,7 @@ impl<S, V, T, K, R: Rows<S, V, T, K>> Running<S, View<V, T>, K, OneWorld<R>> {
             × IsSomeones R.family token.old.me.0 }
         requires word { word < self.now.table.shared.table_id.words }
         requires seen { IsSeen R.family (R.family.key self.now.table.shared.key) word }
+        requires lock { IsLock R.family (R.family.key self.now.table.shared.key) word }
         requires owes { Owes R.family (R.family.key self.now.table.shared.key) token.old.me word
             (λ n. either (n == 0) 1 n)
             (runs_lock R.family A.at (step self.now.table.shared.table_id.slots word 0 1 (some said.now))
@@ -261,7 +265,7 @@ impl<S, V, T, K, R: Rows<S, V, T, K>> Running<S, View<V, T>, K, OneWorld<R>> {
             × IsSomeones R.family token.old.me.0 }
         requires words { (word < self.now.table.shared.table_id.words)
             × (sleepers < self.now.table.shared.table_id.words) }
-        requires aside { IsAside R.family (R.family.key self.now.table.shared.key) sleepers }
+        requires futex { R.family.IsFutex (R.family.key self.now.table.shared.key) (lock_at word sleepers) }
         requires owes { Owes R.family (R.family.key self.now.table.shared.key) token.old.me word
             (λ n. either (n == 0) 1 n)
             (runs_lock R.family A.at (step self.now.table.shared.table_id.slots word 0 1 none) token.old.me) }
@@ -271,7 +275,6 @@ impl<S, V, T, K, R: Rows<S, V, T, K>> Running<S, View<V, T>, K, OneWorld<R>> {
             (token.new.me ≡ token.old.me) }
     {
         for _ in rt.forever() {
-            // Before the time is looked at: who was woken was so in place of others that sleep.
             if self
                 .table
                 .shared
@@ -280,18 +283,89 @@ impl<S, V, T, K, R: Rows<S, V, T, K>> Running<S, View<V, T>, K, OneWorld<R>> {
             {
                 return true;
             }
-            let longest = time_left(rt, deadline);
+            let longest = match deadline {
+                Some(deadline) => time_left(rt, deadline),
+                None => Duration::ZERO,
+            };
             if longest.is_zero() {
                 return false;
             }
-            self.await_lock(rt, token, word, sleepers, Some(longest));
+            if self.try_later::<A, W>(rt, token, word, sleepers, Some(longest)) {
+                return true;
+            }
         }
         unreachable!()
     }
 
-    /// Returns once the lock was free, and perhaps before; where a longest time is given, once that is over
-    /// too.
-    fn await_lock<W: Wait>(
+    /// Waits until the lock is free, and perhaps shorter, where a longest time is given at most so long. Who has
+    /// slept tries for it then, since it may have been woken in place of others: whether it was taken.
+    fn try_later<A: Start<S, V>, W: Wait>(
+        &self,
+        rt: &W,
+        token: &mut Token<S, V, T>,
+        word: usize,
+        sleepers: usize,
+        longest: Option<Duration>,
+    ) -> bool
+        requires own { (token.old.table_id ≡ self.now.table.shared.table_id)
+            × IsSomeones R.family token.old.me.0 }
+        requires words { (word < self.now.table.shared.table_id.words)
+            × (sleepers < self.now.table.shared.table_id.words) }
+        requires futex { R.family.IsFutex (R.family.key self.now.table.shared.key) (lock_at word sleepers) }
+        requires owes { Owes R.family (R.family.key self.now.table.shared.key) token.old.me word
+            (λ n. either (n == 0) 1 n)
+            (runs_lock R.family A.at (step self.now.table.shared.table_id.slots word 0 1 none) token.old.me) }
+        ensures own { token.new.table_id ≡ token.old.table_id }
+        ensures took { MatchBool result (Took R.family
+            (A.at (step self.now.table.shared.table_id.slots word 0 1 none)) token.old.me token.new.me)
+            (token.new.me ≡ token.old.me) }
+    {
+        if self.is_free_soon(token, word) {
+            return false;
+        }
+        self.sleep_for_lock(rt, token, word, sleepers, longest);
+        self.table
+            .shared
+            .compare_exchange::<RunsTry<A, R, K>>(token, word, 0, 1)
+            == 0
+    }
+
+    /// The same, at the row that is said, and for as long as it takes.
+    fn try_later_for<A: Start<S, V>, W: Wait>(
+        &self,
+        rt: &W,
+        token: &mut Token<S, V, T>,
+        word: usize,
+        sleepers: usize,
+        said: &S,
+    ) -> bool
+        requires own { (token.old.table_id ≡ self.now.table.shared.table_id)
+            × IsSomeones R.family token.old.me.0 }
+        requires words { (word < self.now.table.shared.table_id.words)
+            × (sleepers < self.now.table.shared.table_id.words) }
+        requires futex { R.family.IsFutex (R.family.key self.now.table.shared.key) (lock_at word sleepers) }
+        requires owes { Owes R.family (R.family.key self.now.table.shared.key) token.old.me word
+            (λ n. either (n == 0) 1 n)
+            (runs_lock R.family A.at (step self.now.table.shared.table_id.slots word 0 1 (some said.now))
+            token.old.me) }
+        ensures own { token.new.table_id ≡ token.old.table_id }
+        ensures took { MatchBool result (Took R.family
+            (A.at (step self.now.table.shared.table_id.slots word 0 1
+            (some said.now))) token.old.me token.new.me)
+            (token.new.me ≡ token.old.me) }
+    {
+        if self.is_free_soon(token, word) {
+            return false;
+        }
+        self.sleep_for_lock(rt, token, word, sleepers, None);
+        self.table
+            .shared
+            .compare_exchange_with::<RunsTry<A, R, K>>(token, word, 0, 1, said)
+            == 0
+    }
+
+    /// Sleeps until the lock was given back, and perhaps shorter: the thread owes it a try.
+    fn sleep_for_lock<W: Wait>(
         &self,
         rt: &W,
         token: &mut Token<S, V, T>,
@@ -302,31 +376,24 @@ impl<S, V, T, K, R: Rows<S, V, T, K>> Running<S, View<V, T>, K, OneWorld<R>> {
         requires own { token.old.table_id ≡ self.now.table.shared.table_id }
         requires words { (word < self.now.table.shared.table_id.words)
             × (sleepers < self.now.table.shared.table_id.words) }
-        requires aside { IsAside R.family (R.family.key self.now.table.shared.key) sleepers }
-        ensures same { (token.new.table_id ≡ token.old.table_id) × (token.new.me ≡ token.old.me) }
+        requires futex { R.family.IsFutex (R.family.key self.now.table.shared.key) (lock_at word sleepers) }
+        ensures own { token.new.table_id ≡ token.old.table_id }
+        ensures wants { token.new.me ≡ dealing (at_stage (Wants word) token.old.me.0.parking) token.old.me }
     {
-        if self.is_free_soon(token, word) {
-            return;
-        }
-        let shared = &self.table.shared;
-        // Counted before `park` looks at the lock: who gives it back after that look finds the count, and
-        // wakes.
-        shared.fetch_add::<SetsAside>(token, sleepers, 1);
-        match longest {
-            None => shared.park(rt, word, 1),
-            Some(longest) => shared.park_timeout(rt, word, 1, longest),
-        }
-        shared.fetch_sub::<SetsAside>(token, sleepers, 1);
+        self.begin_sleep(rt, token, sleepers);
+        self.sleep_at_lock(rt, token, word, sleepers, longest);
+        self.end_sleep(token, sleepers);
     }
 
     /// A row that gives a lock back, and with it the record that was taken last; one thread that sleeps at
     /// the lock is woken.
     #[inline]
-    pub fn give_lock(&self, token: &mut Token<S, V, T>, word: usize, sleepers: usize)
+    pub fn give_lock<N: Kernel>(&self, token: &mut Token<S, V, T>, word: usize, sleepers: usize)
         requires own { (token.old.table_id ≡ self.now.table.shared.table_id)
             × IsSomeones R.family token.old.me.0 }
         requires words { (word < self.now.table.shared.table_id.words)
             × (sleepers < self.now.table.shared.table_id.words) }
+        requires futex { R.family.IsFutex (R.family.key self.now.table.shared.key) (lock_at word sleepers) }
         requires owes { Owes R.family (R.family.key self.now.table.shared.key) token.old.me word (λ _. 0)
             (λ _. runs_unlock R.family (step self.now.table.shared.table_id.slots word 0 0 none)
             token.old.me 0) }
@@ -334,33 +401,22 @@ impl<S, V, T, K, R: Rows<S, V, T, K>> Running<S, View<V, T>, K, OneWorld<R>> {
         ensures went { runs_unlock R.family
             (step self.now.table.shared.table_id.slots word 0 0 none) token.old.me 0 token.new.me }
     {
-        self.return_lock(token, word);
-        self.rouse_at_lock(token, word, sleepers);
-    }
-
-    /// The same row, and nobody is woken: who sleeps at the lock is for another to wake, by
-    /// [`Running::rouse_at_lock`], or there is nobody who ever sleeps there.
-    #[inline]
-    pub fn return_lock(&self, token: &mut Token<S, V, T>, word: usize)
-        requires own { (token.old.table_id ≡ self.now.table.shared.table_id)
-            × IsSomeones R.family token.old.me.0 }
-        requires word { word < self.now.table.shared.table_id.words }
-        requires owes { Owes R.family (R.family.key self.now.table.shared.key) token.old.me word (λ _. 0)
-            (λ _. runs_unlock R.family (step self.now.table.shared.table_id.slots word 0 0 none)
-            token.old.me 0) }
-        ensures own { token.new.table_id ≡ token.old.table_id }
-        ensures went { runs_unlock R.family
-            (step self.now.table.shared.table_id.slots word 0 0 none) token.old.me 0 token.new.me }
-    {
-        self.return_lock_from::<Here>(token, word);
+        self.give_lock_from::<Here, N>(token, word, sleepers);
     }
 
     /// The same at another row than the one at which the seat stands.
     #[inline]
-    pub fn return_lock_from<A: Start<S, V>>(&self, token: &mut Token<S, V, T>, word: usize)
+    pub fn give_lock_from<A: Start<S, V>, N: Kernel>(
+        &self,
+        token: &mut Token<S, V, T>,
+        word: usize,
+        sleepers: usize,
+    )
         requires own { (token.old.table_id ≡ self.now.table.shared.table_id)
             × IsSomeones R.family token.old.me.0 }
-        requires word { word < self.now.table.shared.table_id.words }
+        requires words { (word < self.now.table.shared.table_id.words)
+            × (sleepers < self.now.table.shared.table_id.words) }
+        requires futex { R.family.IsFutex (R.family.key self.now.table.shared.key) (lock_at word sleepers) }
         requires owes { Owes R.family (R.family.key self.now.table.shared.key) token.old.me word (λ _. 0)
             (λ _. runs_unlock_from R.family A.at (step self.now.table.shared.table_id.slots word 0 0 none)
             token.old.me 0) }
@@ -368,19 +424,28 @@ impl<S, V, T, K, R: Rows<S, V, T, K>> Running<S, View<V, T>, K, OneWorld<R>> {
         ensures went { runs_unlock_from R.family A.at
             (step self.now.table.shared.table_id.slots word 0 0 none) token.old.me 0 token.new.me }
     {
+        self.free::<A>(token, word, sleepers);
+        // Looked at after the lock is free: who was counted later finds it so, and doesn't sleep.
+        self.rouse_at_lock::<N>(token, word, sleepers);
+    }
+
+    /// The row alone: the thread owes a look for who sleeps there.
+    #[inline]
+    fn free<A: Start<S, V>>(&self, token: &mut Token<S, V, T>, word: usize, _sleepers: usize)
+        requires own { (token.old.table_id ≡ self.now.table.shared.table_id)
+            × IsSomeones R.family token.old.me.0 }
+        requires word { word < self.now.table.shared.table_id.words }
+        requires futex { R.family.IsFutex (R.family.key self.now.table.shared.key) (lock_at word _sleepers) }
+        requires owes { Owes R.family (R.family.key self.now.table.shared.key) token.old.me word (λ _. 0)
+            (λ _. runs_unlock_from R.family A.at (step self.now.table.shared.table_id.slots word 0 0 none)
+            token.old.me 0) }
+        ensures own { token.new.table_id ≡ token.old.table_id }
+        ensures went { unlocks R.family A.at (step self.now.table.shared.table_id.slots word 0 0 none)
+            token.old.me 0 token.new.me }
+        ensures owing { IsOwing word token.new.me.0.parking }
+    {
         self.table
             .shared
             .store::<RunsUnlock<A, R, K>>(token, word, 0);
-    }
-
-    /// Wakes one thread that sleeps at a lock which was given back, where one does.
-    #[inline]
-    pub fn rouse_at_lock(&self, _token: &Token<S, V, T>, word: usize, sleepers: usize)
-        requires { (word < self.now.table.shared.table_id.words)
-            × (sleepers < self.now.table.shared.table_id.words) }
-    {
-        if self.table.shared.peek(sleepers) != 0 {
-            self.table.shared.wake_one(word);
-        }
     }
 }

@@ -25,7 +25,8 @@ impl<S, V, T, K, R: Rows<S, V, T, K>> Running<S, View<V, T>, K, OneWorld<R>> {
         ensures met { Met R.family
             (R.family.word_at (R.family.of one.old.me.0.own.knows) word) one.old.me.0.own other.old.me.0.own
             result one.new.me.0.own other.new.me.0.own }
-        ensures one { one.new.me ≡ (record one.old.me.0 { own = one.new.me.0.own }, one.old.me.1) }
+        ensures one { one.new.me
+            ≡ (record one.old.me.0 { own = one.new.me.0.own; parking = one.new.me.0.parking }, one.old.me.1) }
         ensures other { other.new.me ≡ (lone other.new.me.0.own, []) }
     {
         let shared = &self.table.shared;

@@ -1,24 +1,26 @@
 //! Sleeping until a grant, and waking who sleeps.
 //!
-//! Each grant word has a word beside it, which is above 0 while its thread sleeps, or is about to. Who sleeps
-//! sets it, then looks at the grant (`park` does), then sleeps; who grants stores the grant, then looks at
-//! that word. All four are in one order, the same for all threads: either the sleeper's look finds the grant,
-//! or its word was set before the granter's look, which finds it and calls the kernel. So no grant is missed,
-//! and where nobody sleeps the kernel isn't called.
+//! Each grant word has a word beside it, which counts the threads that sleep there, or are about to: one, or
+//! none. Who sleeps counts itself, then looks at the grant, then sleeps; who grants stores the grant, then looks
+//! at the count. All four are in one order, the same for all threads: either the sleeper's look finds the grant,
+//! or it was counted before the granter's look, which finds it and calls the kernel. So no grant is missed, and
+//! where nobody sleeps the kernel isn't called.
 //!
-//! To grant and to wake are two calls ([`Running::store_grant`], and [`Running::rouse`] or
-//! [`Running::wake`] behind it): who wakes looks at the word after the grant was stored, by whomever, and the
-//! same holds.
-ghost use Rattle.std.specs.Prelude.{◌≡◌, ◌<◌, ◌≤◌, ◌^◌, [], ◌∷◌, ◌++◌};
+//! A notification of all stores many grants, and leaves most wake-ups to those that it woke
+//! ([`Running::pass_grant`], [`Running::wake`]).
+ghost use Rattle.std.specs.Prelude.{◌≡◌, ◌<◌, ◌≤◌, ◌^◌};
 ghost use mathlib.Core.Option.{none};
 ghost use Rattle.atomic_table.specs.Table.{step};
-ghost use Rattle.running_rows.specs.Strides.{runs_grant, runs_take_or_nothing, RanRow, here};
+ghost use Rattle.running_rows.specs.Strides.{grants, runs_grant, runs_take_or_nothing, RanRow, here};
 ghost use Rattle.running_rows.specs.Rule.{IsSomeones};
-ghost use Rattle.running_rows.specs.Owing.{Owes, IsAside};
-ghost use Rattle.running_rows.specs.Sleeping.{AreThere, IsShort, StoresLast};
+ghost use Rattle.running_rows.specs.Owing.{Owes, IsAside, IsGrant, IsPlain};
+ghost use Rattle.running_rows.specs.Futex.{grant_at};
+ghost use Rattle.running_rows.specs.Parking.{IsOwing};
+ghost use Rattle.running_rows.specs.Sleeping.{AreThere, IsShort};
 
 use crate::families::Rows;
-use crate::plays::{RunsGrant, RunsTakeOrNothing, SetsAside};
+use crate::kernel::Kernel;
+use crate::plays::{PassesGrant, RunsGrant, RunsTakeOrNothing, SetsAside};
 use crate::rule::OneWorld;
 use crate::running::Running;
 use crate::view::{Token, View};
@@ -156,8 +158,9 @@ impl<S, V, T, K, R: Rows<S, V, T, K>> Running<S, View<V, T>, K, OneWorld<R>> {
             × (misses < self.now.table.shared.table_id.words) }
         requires there { AreThere self.now.table.shared.table_id.words patience.now.gives_way }
         requires short { IsShort patience.now }
-        requires aside { IsAside R.family (R.family.key self.now.table.shared.key) asleep
-            × IsAside R.family (R.family.key self.now.table.shared.key) misses }
+        requires futex { R.family.IsFutex (R.family.key self.now.table.shared.key) (grant_at word asleep) }
+        requires aside { IsAside R.family (R.family.key self.now.table.shared.key) misses
+            × IsPlain R.family (R.family.key self.now.table.shared.key) misses }
         ensures same { (token.new.table_id ≡ token.old.table_id) × (token.new.me ≡ token.old.me) }
     {
         let missed = self.table.shared.peek(misses);
@@ -166,20 +169,17 @@ impl<S, V, T, K, R: Rows<S, V, T, K>> Running<S, View<V, T>, K, OneWorld<R>> {
         if let Looked::Granted = looked {
             return;
         }
-        // Set before `park` looks at the grant: who grants after that look finds it, and wakes.
-        self.set_aside(token, asleep, 1);
-        match longest {
-            None => self.table.shared.park(rt, word, 0),
-            Some(longest) => self.table.shared.park_timeout(rt, word, 0, longest),
-        }
-        self.set_aside(token, asleep, 0);
+        self.begin_sleep(rt, token, asleep);
+        self.sleep_at_grant(rt, token, word, asleep, longest);
+        self.end_sleep(token, asleep);
     }
 
     /// Counts the waits in vain, one after the other. A thread that gave way to others has learnt nothing.
     fn learn(&self, token: &mut Token<S, V, T>, misses: usize, missed: u64, looked: &Looked)
         requires own { token.old.table_id ≡ self.now.table.shared.table_id }
         requires low { misses < self.now.table.shared.table_id.words }
-        requires aside { IsAside R.family (R.family.key self.now.table.shared.key) misses }
+        requires aside { IsAside R.family (R.family.key self.now.table.shared.key) misses
+            × IsPlain R.family (R.family.key self.now.table.shared.key) misses }
         ensures same { (token.new.table_id ≡ token.old.table_id) × (token.new.me ≡ token.old.me) }
     {
         let now = match looked {
@@ -209,8 +209,9 @@ impl<S, V, T, K, R: Rows<S, V, T, K>> Running<S, View<V, T>, K, OneWorld<R>> {
             × (misses < self.now.table.shared.table_id.words) }
         requires there { AreThere self.now.table.shared.table_id.words patience.now.gives_way }
         requires short { IsShort patience.now }
-        requires aside { IsAside R.family (R.family.key self.now.table.shared.key) asleep
-            × IsAside R.family (R.family.key self.now.table.shared.key) misses }
+        requires futex { R.family.IsFutex (R.family.key self.now.table.shared.key) (grant_at word asleep) }
+        requires aside { IsAside R.family (R.family.key self.now.table.shared.key) misses
+            × IsPlain R.family (R.family.key self.now.table.shared.key) misses }
         requires owes { Owes R.family (R.family.key self.now.table.shared.key) token.old.me word (λ _. 0)
             (runs_take_or_nothing R.family (step self.now.table.shared.table_id.slots word 0 0 none)
             token.old.me) }
@@ -232,33 +233,70 @@ impl<S, V, T, K, R: Rows<S, V, T, K>> Running<S, View<V, T>, K, OneWorld<R>> {
         unreachable!()
     }
 
-    /// A row that stores a grant. It wakes nobody: that is for [`Running::rouse`] or [`Running::wake`].
+    /// A row that stores a grant; the thread that sleeps until then is woken.
     #[inline]
-    pub fn store_grant(&self, token: &mut Token<S, V, T>, word: usize, units: u64)
+    pub fn grant<N: Kernel>(
+        &self,
+        token: &mut Token<S, V, T>,
+        word: usize,
+        asleep: usize,
+        units: u64,
+    )
         requires own { (token.old.table_id ≡ self.now.table.shared.table_id)
             × IsSomeones R.family token.old.me.0 }
-        requires low { word < self.now.table.shared.table_id.words }
+        requires words { (word < self.now.table.shared.table_id.words)
+            × (asleep < self.now.table.shared.table_id.words) }
+        requires futex { R.family.IsFutex (R.family.key self.now.table.shared.key) (grant_at word asleep) }
         requires owes { Owes R.family (R.family.key self.now.table.shared.key) token.old.me word (λ _. units)
             (λ _. runs_grant R.family (step self.now.table.shared.table_id.slots word units 0 none)
             token.old.me units) }
         ensures own { token.new.table_id ≡ token.old.table_id }
         ensures went { runs_grant R.family
             (step self.now.table.shared.table_id.slots word units 0 none) token.old.me units token.new.me }
-        ensures stored { StoresLast R.family token.new.me.0.own word units }
+    {
+        self.store_grant(token, word, asleep, units);
+        // Looked at after the grant is stored: who was counted later finds it, and doesn't sleep.
+        self.rouse_at_grant::<N>(token, word, asleep);
+    }
+
+    /// The row alone: the thread owes a look for who sleeps there.
+    #[inline]
+    fn store_grant(&self, token: &mut Token<S, V, T>, word: usize, _asleep: usize, units: u64)
+        requires own { (token.old.table_id ≡ self.now.table.shared.table_id)
+            × IsSomeones R.family token.old.me.0 }
+        requires low { word < self.now.table.shared.table_id.words }
+        requires futex { R.family.IsFutex (R.family.key self.now.table.shared.key) (grant_at word _asleep) }
+        requires owes { Owes R.family (R.family.key self.now.table.shared.key) token.old.me word (λ _. units)
+            (λ _. runs_grant R.family (step self.now.table.shared.table_id.slots word units 0 none)
+            token.old.me units) }
+        ensures own { token.new.table_id ≡ token.old.table_id }
+        ensures went { grants R.family (step self.now.table.shared.table_id.slots word units 0 none)
+            token.old.me units token.new.me }
+        ensures owing { IsOwing word token.new.me.0.parking }
     {
         self.table
             .shared
             .store::<RunsGrant<R, K>>(token, word, units);
     }
 
-    /// Wakes the thread of the seat that was just granted, where it has gone to sleep.
+    /// The same row, and nobody is woken: that is for another, by [`Running::wake`] behind it.
     #[inline]
-    pub fn rouse(&self, granted: &Token<S, V, T>, word: usize, asleep: usize, _units: u64)
-        requires words { (word < self.now.table.shared.table_id.words)
-            × (asleep < self.now.table.shared.table_id.words) }
-        requires stored { StoresLast R.family granted.now.me.0.own word _units }
+    pub fn pass_grant(&self, token: &mut Token<S, V, T>, word: usize, units: u64)
+        requires own { (token.old.table_id ≡ self.now.table.shared.table_id)
+            × IsSomeones R.family token.old.me.0 }
+        requires low { word < self.now.table.shared.table_id.words }
+        requires grant { IsGrant R.family (R.family.key self.now.table.shared.key) word }
+        requires passes { R.family.MayPass token.old.me.0.own.knows }
+        requires owes { Owes R.family (R.family.key self.now.table.shared.key) token.old.me word (λ _. units)
+            (λ _. runs_grant R.family (step self.now.table.shared.table_id.slots word units 0 none)
+            token.old.me units) }
+        ensures own { token.new.table_id ≡ token.old.table_id }
+        ensures went { runs_grant R.family
+            (step self.now.table.shared.table_id.slots word units 0 none) token.old.me units token.new.me }
     {
-        self.wake(granted, word, asleep);
+        self.table
+            .shared
+            .store::<PassesGrant<R, K>>(token, word, units);
     }
 
     /// Wakes the thread that sleeps at a grant, where one does and the grant is there: a call of the kernel
@@ -276,7 +314,8 @@ impl<S, V, T, K, R: Rows<S, V, T, K>> Running<S, View<V, T>, K, OneWorld<R>> {
     pub fn set_aside(&self, token: &mut Token<S, V, T>, word: usize, number: u64)
         requires own { token.old.table_id ≡ self.now.table.shared.table_id }
         requires low { word < self.now.table.shared.table_id.words }
-        requires aside { IsAside R.family (R.family.key self.now.table.shared.key) word }
+        requires aside { IsAside R.family (R.family.key self.now.table.shared.key) word
+            × IsPlain R.family (R.family.key self.now.table.shared.key) word }
         ensures same { (token.new.table_id ≡ token.old.table_id) × (token.new.me ≡ token.old.me) }
     {
         self.table.shared.store::<SetsAside>(token, word, number);

@@ -5,7 +5,7 @@ ghost use prog.Atomic.{either};
 ghost use Rattle.atomic_table.specs.Table.{step};
 ghost use Rattle.running_rows.specs.Strides.{looks_at, runs_access, runs_store, runs_take_or_look};
 ghost use Rattle.running_rows.specs.Rule.{IsSomeones};
-ghost use Rattle.running_rows.specs.Owing.{Owes, IsSeen};
+ghost use Rattle.running_rows.specs.Owing.{Owes, IsSeen, IsPlain, IsGrant};
 
 use crate::families::{Rows, Start};
 use crate::plays::{Looks, RunsAccess, RunsStore, RunsTakeOrLook};
@@ -56,6 +56,7 @@ impl<S, V, T, K, R: Rows<S, V, T, K>> Running<S, View<V, T>, K, OneWorld<R>> {
         requires own { (token.old.table_id ≡ self.now.table.shared.table_id)
             × IsSomeones R.family token.old.me.0 }
         requires word { word < self.now.table.shared.table_id.words }
+        requires plain { IsPlain R.family (R.family.key self.now.table.shared.key) word }
         requires owes { Owes R.family (R.family.key self.now.table.shared.key) token.old.me word
             (λ n. either (n == old) new n)
             (runs_access R.family A.at (step self.now.table.shared.table_id.slots word old new none)
@@ -75,6 +76,7 @@ impl<S, V, T, K, R: Rows<S, V, T, K>> Running<S, View<V, T>, K, OneWorld<R>> {
         requires own { (token.old.table_id ≡ self.now.table.shared.table_id)
             × IsSomeones R.family token.old.me.0 }
         requires word { word < self.now.table.shared.table_id.words }
+        requires plain { IsPlain R.family (R.family.key self.now.table.shared.key) word }
         requires owes { Owes R.family (R.family.key self.now.table.shared.key) token.old.me word
             (λ n. (n + more) % 2 ^ 64)
             (runs_access R.family A.at (step self.now.table.shared.table_id.slots word more 0 none)
@@ -99,6 +101,7 @@ impl<S, V, T, K, R: Rows<S, V, T, K>> Running<S, View<V, T>, K, OneWorld<R>> {
         requires own { (token.old.table_id ≡ self.now.table.shared.table_id)
             × IsSomeones R.family token.old.me.0 }
         requires word { word < self.now.table.shared.table_id.words }
+        requires plain { IsPlain R.family (R.family.key self.now.table.shared.key) word }
         requires owes { Owes R.family (R.family.key self.now.table.shared.key) token.old.me word
             (λ n. (n + (2 ^ 64 - less)) % 2 ^ 64)
             (runs_access R.family A.at (step self.now.table.shared.table_id.slots word less 0 none)
@@ -118,6 +121,7 @@ impl<S, V, T, K, R: Rows<S, V, T, K>> Running<S, View<V, T>, K, OneWorld<R>> {
         requires own { (token.old.table_id ≡ self.now.table.shared.table_id)
             × IsSomeones R.family token.old.me.0 }
         requires word { word < self.now.table.shared.table_id.words }
+        requires plain { IsPlain R.family (R.family.key self.now.table.shared.key) word }
         requires owes { Owes R.family (R.family.key self.now.table.shared.key) token.old.me word (λ _. new)
             (λ _. runs_store R.family A.at (step self.now.table.shared.table_id.slots word new 0 none)
             token.old.me new) }
@@ -136,6 +140,7 @@ impl<S, V, T, K, R: Rows<S, V, T, K>> Running<S, View<V, T>, K, OneWorld<R>> {
         requires own { (token.old.table_id ≡ self.now.table.shared.table_id)
             × IsSomeones R.family token.old.me.0 }
         requires word { word < self.now.table.shared.table_id.words }
+        requires grant { IsGrant R.family (R.family.key self.now.table.shared.key) word }
         requires owes { Owes R.family (R.family.key self.now.table.shared.key) token.old.me word (λ _. 0)
             (runs_take_or_look R.family (step self.now.table.shared.table_id.slots word 0 0 none)
             token.old.me) }

@@ -1,4 +1,5 @@
 //! What a token of a seat knows. A clause reads an array as a list, of any length.
+use crate::parking::Parking;
 
 /// One seat: its number, what it knows, and all strides that it has gone. No value of it is made.
 pub struct Seated<V, T> {
@@ -13,6 +14,8 @@ pub struct View<V, T> {
     pub guests: [Seated<V, T>; 0],
     /// Of the seat that makes the others, how many were made; of another 0.
     pub made: u64,
+    /// What its thread has to do with those that sleep in the kernel.
+    pub parking: Parking,
 }
 
 /// A seat of the words. It has no bytes, and without the words no step can be made with it.

@@ -1,5 +1,5 @@
 -- A release from its root's lock on, row by row.
-use Rattle.std.proofs.Common.{◌≡◌, ◌≢◌, ℕ, ◌+◌, ◌-◌, ◌^◌, ◌<◌, ◌≤◌, nat_eq, not, MatchBool, Bool, true, false, List, []}
+use Rattle.std.proofs.Common.{◌≡◌, ◌≢◌, ℕ, ◌+◌, ◌-◌, ◌<◌, ◌≤◌, nat_eq, not, MatchBool, Bool, true, false, List, []}
 use Rattle.std.proofs.Common.{◌∷◌, ◌++◌, drop, sym, refl, ap, ◌∙◌}
 use Rattle.std.proofs.Common.{subst, arith, eq-eqb, ne_eqb}
 use mathlib.Core.Logic.{dite}

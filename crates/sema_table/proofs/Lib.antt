@@ -9,6 +9,7 @@ pub mod Changing
 pub mod Keeping
 pub mod Allowing
 pub mod Seeing
+pub mod Futexes
 pub mod Apart
 pub mod Stepping
 pub mod Leading

@@ -1,7 +1,7 @@
 -- A table as it is made shows the first world.
 use Rattle.std.proofs.Common.{◌≡◌, ℕ, zero, suc, ◌+◌, ◌*◌, ◌%◌, ◌^◌, ◌<◌, ◌≤◌, List, [], ◌∷◌, ◌++◌, length}
 use Rattle.std.proofs.Common.{replicate, map, get_or, slice_index, slice_index_or}
-use Rattle.std.proofs.Common.{All, sym, refl, ap, ◌∙◌, subst, arith, length-append, lt_of_not-le}
+use Rattle.std.proofs.Common.{inl, inr, All, sym, refl, ap, ◌∙◌, subst, arith, length-append, lt_of_not-le}
 use Rattle.std.proofs.lemmas.List.{get_or-append-add, get_or_past, length-map, length-replicate}
 use Rattle.std.proofs.lemmas.List.FromFn.{length-map-range_with_len, map-range_with_len_more}
 use Rattle.std.specs.List.{range_with_len}
@@ -27,6 +27,9 @@ use Rattle.std.proofs.lemmas.List.Elements.{All-map}
 use Rattle.sema_table.specs.declared.settings.Settings.{Settings}
 use Rattle.sema_table.specs.Making.{IsMade, new_root, new_roots, new_seat, new_seats}
 use Rattle.sema_table.specs.Seats.{TableModel, SeatModel}
+use Rattle.sema_table.specs.Futexes.{IsTableFutex}
+use Rattle.running_rows.specs.Futex.{Futex}
+use Rattle.sema_table.proofs.Futexes.{are_futexes}
 use Rattle.sema_table.proofs.Apart.{at_apart, length_apart}
 
 zeros : (n k : ℕ) → ◌≡◌ {A = ℕ} (get_or (replicate n 0) k 0) 0
@@ -86,6 +89,12 @@ module _ (z : Setting) where
     takes = let n = unserved k in omega arith;
   }
 
+  -- behind the words of the world lies a 0 in each
+  none_sleep : (n : ℕ) (x : Futex) → IsTableFutex z x → slice_index (apart z.starts ++ replicate n 0) x.sleepers ≡ 0
+  none_sleep n x (inl a) = behind z.starts n (z.roots + z.roots + z.seats + (z.seats + z.seats + a.0)) x.sleepers
+      (let s = ap (λ (y : Futex). y.sleepers) a.2 in omega arith)
+  none_sleep n x (inr a) = behind z.starts n (z.roots + z.roots + z.seats + a.0) x.sleepers (let s = ap (λ (y : Futex). y.sleepers) a.2 in omega arith)
+
   -- words as they are made are those of the first world, and the roots are empty
   pub opens : 0 < z.roots → 0 < z.seats → z.seats ≤ 65536 → z.seats * z.limit ≤ 2 ^ 62 → length z.starts ≤ 65536 → All (λ n. n < 2 ^ 32) z.starts
       → Opens semaphore_rows z (apart z.starts ++ replicate (z.roots + z.roots + z.seats + z.seats + z.seats + z.roots) 0)
@@ -114,6 +123,8 @@ module _ (z : Setting) where
     unwritten = refl;
     unmade = λ k low. meets_first k;
     some_seats = seated;
+    futexes = are_futexes z;
+    none_sleep = none_sleep (z.roots + z.roots + z.seats + z.seats + z.seats + z.roots);
   }
 
 -- the seats of a table are of this table

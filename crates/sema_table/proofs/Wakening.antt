@@ -1,5 +1,5 @@
 -- A release from its root's lock on, to its end.
-use Rattle.std.proofs.Common.{◌≡◌, ℕ, ◌<◌, if◌then◌else◌, Bool, true, false, List, [], ◌∷◌, ◌++◌}
+use Rattle.std.proofs.Common.{◌≡◌, ◌<◌, if◌then◌else◌, Bool, true, false, List, [], ◌∷◌, ◌++◌}
 use Rattle.std.proofs.Common.{drop, Option, Some, None, IfSome}
 use Rattle.std.proofs.Common.{IfNone, sym, refl, ap, ◌∙◌, subst, arith, append-nil}
 use Rattle.waiters.specs.declared.wait.WaitId.{WaitId}
@@ -9,19 +9,15 @@ use Rattle.step_table.specs.declared.place.Release.{Release}
 use Rattle.step_table.specs.declared.place.ReleaseRow.TheVariants.{R3, R4, R5, R6, R7, R10}
 use Rattle.step_table.specs.declared.place.Place.{Place}
 use Rattle.step_table.specs.declared.place.Place.TheVariants.{Rest, Releasing}
-use Rattle.step_table.specs.declared.word.Word.TheVariants.{Grant}
 use Rattle.step_table.specs.World.{SeatState}
 use Rattle.step_table.specs.Event.{by_first}
 use Rattle.step_table.specs.Counting.{counter_at}
-use Rattle.sema_table.specs.Rows.{HasStored}
-use Rattle.sema_table.specs.Setting.{address}
 use Rattle.sema_table.specs.Changes.{spent_by}
 use Rattle.sema_table.specs.declared.seat.Numbers.{Numbers}
 use Rattle.sema_table.specs.declared.answers.Wake.TheVariants.{Nobody, One, Handed}
 use Rattle.sema_table.specs.Places.{is_free}
 use Rattle.sema_table.specs.Rule.{sight_by, lists_by}
-use Rattle.sema_table.specs.Seats.{Token, TableModel, SeatModel, seat_of, IsToken, IsSeat}
-use Rattle.sema_table.specs.AtLock.{IsGranted, GrantsLast}
+use Rattle.sema_table.specs.Seats.{Token, TableModel, seat_of, IsToken, IsSeat}
 use Rattle.sema_table.specs.Walks.{Stands, Walked, Granted, moved_to, taken_out, sought, trying, unlocked, granting, grant_of, taken_for}
 use Rattle.sema_table.specs.Calls.{ComesTo}
 use Rattle.sema_table.specs.Waking.{CallsGrant, Wakes}
@@ -225,18 +221,3 @@ trying_counter r = by r.handoff
 pub granting_counter : (r : Release) (b : Bool) → counter_at (granting r b) ≡ r.counter
 granting_counter r true = refl
 granting_counter r false = refl
-
--- what the seat granted last, told of its token and of itself
-module _ (z : TableModel) (t : Token) (n : Numbers) (seat : ℕ) where
-  pub grants_last : (k units : ℕ) → seat < z.setting.seats → k ≡ units → IsGranted z t seat k → GrantsLast z (seat_of t n) seat units
-  grants_last k units there much x = record {
-    there = there;
-    before = x.before;
-    stride = x.stride;
-    last = x.last;
-    stored = subst (HasStored t.me.0.own.knows.setting x.stride (address z.setting (Grant seat))) much x.stored;
-  }
-
-  pub granted_last : (s : SeatModel) (units : ℕ) → seat_of t n ≡ s → GrantsLast z s seat units → IsGranted z t seat units
-  granted_last s units is x = let y = subst (λ (q : SeatModel). GrantsLast z q seat units) (sym is) x in
-      record { before = y.before; stride = y.stride; last = y.last; stored = y.stored }

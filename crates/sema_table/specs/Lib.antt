@@ -1,5 +1,6 @@
 pub mod Strides
 pub mod Setting
+pub mod Futexes
 pub mod Places
 pub mod Rule
 pub mod Changes

@@ -23,6 +23,7 @@ use Rattle.sema_table.specs.declared.view.Setting.{Setting}
 use Rattle.sema_table.specs.declared.view.Record.{Record}
 use Rattle.sema_table.specs.declared.view.Record.TheVariants.{Root}
 use Rattle.sema_table.specs.Setting.{root, layout, address, word_at}
+use Rattle.sema_table.specs.Futexes.{IsTableFutex}
 use Rattle.sema_table.specs.Places.{is_free}
 use Rattle.sema_table.specs.Changes.{changes, most_changes}
 use Rattle.sema_table.specs.Rule.{setting_of, sight_by, lists_by, Knows, IsRecord, ShowsWorld}
@@ -89,6 +90,8 @@ semaphore_rows = record {
   Also = λ s. Beside;
   HasStored = HasStored;
   HasGiven = λ p slots. Unit {0};
+  IsFutex = IsTableFutex;
+  MayPass = λ v. ⊥;
   fresh_is = λ z. refl;
   nobody_is = refl;
 }

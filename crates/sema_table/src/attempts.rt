@@ -1,10 +1,8 @@
 //! The calls of a caller that has other work: each tries for the root's lock a few times, and where that stays
-//! held leaves it at a look that found it so. None waits. Those that wake nobody are for a table where no
-//! thread ever sleeps in the kernel: they never call it.
-ghost use Rattle.std.specs.Prelude.{◌≡◌, ◌<◌, length, All, IfOk, MatchResult};
+//! held leaves it at a look that found it so. None waits.
+ghost use Rattle.std.specs.Prelude.{◌≡◌, ◌<◌, length, MatchResult};
 ghost use Rattle.step_table.specs.declared.place.Place.TheVariants.{Acquiring};
 ghost use Rattle.step_table.specs.declared.place.AcquireRow.TheVariants.{A3};
-ghost use Rattle.sema_table.specs.AtLock.{HasGranted};
 ghost use Rattle.sema_table.specs.Waking.{acquire_of, IsEntered, IsWakened, StillOwes};
 ghost use Rattle.sema_table.specs.Many.{IsWokenSeats, StillOwesMany};
 ghost use Rattle.sema_table.specs.Tries.{FindsHeld};
@@ -18,6 +16,7 @@ use crate::many_seat::OwingMany;
 use crate::seat::{Owing, Seat, Sleeping};
 use crate::sema_table::SemaTable;
 use crate::waking_many::WokenSeats;
+use running_rows::{Futexes, Kernel};
 use step_table::{Acquire, AcquireRow, ParkedRow, Place, Release};
 use waiters::CounterId;
 
@@ -31,13 +30,11 @@ impl SemaTable {
         ensures caller { MatchResult result (λ entered. JoinsQueue seat counter lifo entered)
             (λ refused. StandsOn seat refused) }
     {
-        let entered = self.enter_silently(seat, counter, lifo)?;
-        self.rouse_behind(&entered, counter);
-        Ok(entered)
+        self.try_enter_with::<Futexes>(seat, counter, lifo)
     }
 
-    /// As `try_enter`, and nobody is woken.
-    pub(crate) fn enter_silently(
+    /// The same, where threads sleep, or none does.
+    pub(crate) fn try_enter_with<N: Kernel>(
         &self,
         seat: Seat,
         counter: CounterId,
@@ -56,7 +53,7 @@ impl SemaTable {
         if !self.try_lock(&mut token, counter, &place) {
             return Err(Seat { token, numbers });
         }
-        Ok(self.enter_locked(token, numbers, &call))
+        Ok(self.enter_locked::<N>(token, numbers, &call))
     }
 
     /// As `wake`; where the root's lock stayed held the seat comes back as it stood, and still owes.
@@ -67,22 +64,20 @@ impl SemaTable {
         ensures caller { MatchResult result (λ done. WakesFirst owing handoff done.0 done.1)
             (λ refused. StandsOn owing refused) }
     {
-        let counter = owing.counter;
-        let tried = self.wake_silently(owing, handoff);
-        if let Ok((seat, wake)) = &tried {
-            self.rouse_woken(seat, counter, wake);
-        }
-        tried
+        self.try_wake_with::<Futexes>(owing, handoff)
     }
 
-    /// As `try_wake`, and nobody is woken.
-    pub(crate) fn wake_silently(&self, owing: Owing, handoff: bool) -> Result<(Seat, Wake), Owing>
+    /// The same, where threads sleep, or none does.
+    pub(crate) fn try_wake_with<N: Kernel>(
+        &self,
+        owing: Owing,
+        handoff: bool,
+    ) -> Result<(Seat, Wake), Owing>
         requires { owing.table ≡ self.now }
         ensures rows { MatchResult result (λ done. IsWakened owing handoff done.0 done.1)
             (λ refused. StillOwes owing refused) }
         ensures caller { MatchResult result (λ done. WakesFirst owing handoff done.0 done.1)
             (λ refused. StandsOn owing refused) }
-        ensures stored { IfOk result (λ done. HasGranted self.now done.0 done.1) }
     {
         let Owing {
             mut token,
@@ -97,7 +92,7 @@ impl SemaTable {
                 counter,
             });
         }
-        Ok(self.wake_locked(token, numbers, &call))
+        Ok(self.wake_locked::<N>(token, numbers, &call))
     }
 
     /// As `wake_some`, and answers the seats that it woke; where the root's lock stayed held the seat comes
@@ -109,16 +104,11 @@ impl SemaTable {
         ensures caller { MatchResult result (λ done. WakesThese owing done.0 done.1.items)
             (λ refused. StandsOn owing refused) }
     {
-        let call = owing.call;
-        let tried = self.wake_some_silently(owing);
-        if let Ok((seat, woken)) = &tried {
-            self.rouse_each(seat, call.counter, woken.as_slice());
-        }
-        tried
+        self.try_wake_some_with::<Futexes>(owing)
     }
 
-    /// As `try_wake_some`, and nobody is woken.
-    pub(crate) fn wake_some_silently(
+    /// The same, where threads sleep, or none does.
+    pub(crate) fn try_wake_some_with<N: Kernel>(
         &self,
         owing: OwingMany,
     ) -> Result<(Seat, WokenSeats), OwingMany>
@@ -127,7 +117,6 @@ impl SemaTable {
             (λ refused. StillOwesMany owing refused) }
         ensures caller { MatchResult result (λ done. WakesThese owing done.0 done.1.items)
             (λ refused. StandsOn owing refused) }
-        ensures there { IfOk result (λ done. All (λ k. k < self.now.setting.seats) done.1.items) }
     {
         let OwingMany {
             mut token,
@@ -142,7 +131,7 @@ impl SemaTable {
             });
         }
         let mut hand = WokenSeats::new();
-        let seat = self.wake_some_locked(token, numbers, &call, &mut hand);
+        let seat = self.wake_some_locked::<N>(token, numbers, &call, &mut hand);
         Ok((seat, hand))
     }
 
@@ -154,16 +143,11 @@ impl SemaTable {
         ensures caller { MatchResult result (λ gave_up. GivesUp sleeping gave_up)
             (λ refused. StandsOn sleeping refused) }
     {
-        let call = sleeping.call;
-        let tried = self.leave_silently(sleeping);
-        if let Ok(gave_up) = &tried {
-            self.rouse_after(gave_up, call.counter);
-        }
-        tried
+        self.try_leave_with::<Futexes>(sleeping)
     }
 
-    /// As `try_leave`, and nobody is woken.
-    pub(crate) fn leave_silently(&self, sleeping: Sleeping) -> Result<GaveUp, Sleeping>
+    /// The same, where threads sleep, or none does.
+    pub(crate) fn try_leave_with<N: Kernel>(&self, sleeping: Sleeping) -> Result<GaveUp, Sleeping>
         requires { sleeping.table ≡ self.now }
         ensures rows { MatchResult result (λ gave_up. Leaves sleeping gave_up)
             (λ refused. StillParked sleeping refused) }
@@ -189,6 +173,6 @@ impl SemaTable {
                 turn,
             });
         }
-        Ok(self.leave_locked(token, numbers, &call, turn))
+        Ok(self.leave_locked::<N>(token, numbers, &call, turn))
     }
 }

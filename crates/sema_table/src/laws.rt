@@ -1,5 +1,10 @@
-//! The law of the table, as a function.
-
+//! The laws of the table, as functions.
+ghost use Rattle.running_rows.specs.Futex.{Futex};
+ghost use Rattle.running_rows.specs.Rule.{NoSleeperIsLost};
+ghost use Rattle.running_rows.specs.Table.{State};
+ghost use Rattle.sema_table.specs.Futexes.{IsTableFutex};
+ghost use Rattle.sema_table.specs.Rows.{semaphore_rows};
+ghost use Rattle.sema_table.specs.Rule.{setting_of};
 ghost use Rattle.sema_table.specs.Table.{MakesLawful};
 
 use crate::rows::Semaphores;
@@ -12,4 +17,11 @@ use running_rows::{OneWorld, TableRule, View};
 /// says that they are those of a world to which the step table leads, and each such world is lawful.
 pub fn law_of_the_table()
     ensures { MakesLawful ⟦<OneWorld<Semaphores> as TableRule<Record, View<Known, Stride>, Settings>>⟧.holds }
+{}
+
+/// Between any two steps of any threads no sleeper is lost, at the lock of any root or the grant of any seat.
+pub fn law_of_the_sleepers()
+    ensures { (key : Settings) (s : State Record (View Known Stride)) (x : Futex)
+        → ⟦<OneWorld<Semaphores> as TableRule<Record, View<Known, Stride>, Settings>>⟧.holds key s
+        → IsTableFutex (setting_of key) x → NoSleeperIsLost semaphore_rows (setting_of key) s x }
 {}

@@ -18,7 +18,7 @@ use crate::answers::{GaveUp, Polled};
 use crate::rows::{AtStay, Token};
 use crate::seat::{Leaver, Numbers, Seat, Sleeping};
 use crate::sema_table::SemaTable;
-use running_rows::Here;
+use running_rows::{Futexes, Here, Kernel};
 use std::sync::Wait;
 use step_table::{Acquire, AcquireRow, ParkedRow, Place};
 use waiters::SeatId;
@@ -71,9 +71,7 @@ impl SemaTable {
         } = asleep;
         let place = Place::Acquiring(call, AcquireRow::Parked(turn, ParkedRow::D2));
         self.lock(rt, &mut token, call.counter, &place);
-        let gave_up = self.leave_locked(token, numbers, &call, turn);
-        self.rouse_after(&gave_up, call.counter);
-        gave_up
+        self.leave_locked::<Futexes>(token, numbers, &call, turn)
     }
 
     /// The look and the lock of `leave`, for a caller that has to do more before the wait leaves: the seat has
@@ -105,11 +103,7 @@ impl SemaTable {
         } = asleep;
         let place = Place::Acquiring(call, AcquireRow::Parked(turn, ParkedRow::D2));
         self.lock(rt, &mut token, call.counter, &place);
-        let begun = self.begin_locked(token, numbers, &call, turn);
-        if let Err(gave_up) = &begun {
-            self.rouse_after(gave_up, call.counter);
-        }
-        begun
+        self.begin_locked(token, numbers, &call, turn)
     }
 
     /// What follows D2: the seat with the lock, or the row that gives it back.
@@ -136,7 +130,7 @@ impl SemaTable {
                 turn,
             });
         }
-        self.unlock_coming(&mut token, call, turn);
+        self.unlock_coming::<Futexes>(&mut token, call, turn);
         Err(GaveUp::Coming(Sleeping {
             token,
             numbers,
@@ -161,8 +155,7 @@ impl SemaTable {
         if !withdrew {
             unreachable!()
         }
-        self.unlock_left(&mut token, &call);
-        self.rouse_at_lock(&token, call.counter);
+        self.unlock_left::<Futexes>(&mut token, &call);
         let numbers = Numbers {
             left: numbers.left - 1,
             withdrawn: numbers.withdrawn + 1,
@@ -184,7 +177,6 @@ impl SemaTable {
             turn,
         } = giving_up;
         self.unlock_staying(&mut token, &call, turn);
-        self.rouse_at_lock(&token, call.counter);
         Sleeping {
             token,
             numbers,
@@ -194,7 +186,7 @@ impl SemaTable {
     }
 
     /// The rows after D2, up to the one that gives the lock back.
-    pub(crate) fn leave_locked(
+    pub(crate) fn leave_locked<N: Kernel>(
         &self,
         token: Token,
         numbers: Numbers,
@@ -209,7 +201,7 @@ impl SemaTable {
     {
         let mut token = token;
         if self.withdraw(&mut token, numbers.id(), call, turn) {
-            self.unlock_left(&mut token, call);
+            self.unlock_left::<N>(&mut token, call);
             let numbers = Numbers {
                 left: numbers.left - 1,
                 withdrawn: numbers.withdrawn + 1,
@@ -217,7 +209,7 @@ impl SemaTable {
             };
             return GaveUp::Left(Seat { token, numbers });
         }
-        self.unlock_coming(&mut token, call, turn);
+        self.unlock_coming::<N>(&mut token, call, turn);
         GaveUp::Coming(Sleeping {
             token,
             numbers,
@@ -251,12 +243,13 @@ impl SemaTable {
     }
 
     /// D4.
-    fn unlock_left(&self, token: &mut Token, call: &Acquire)
+    fn unlock_left<N: Kernel>(&self, token: &mut Token, call: &Acquire)
         requires { Holds self.now token.old (Acquiring call.now D4) }
         ensures { Moves token.old (Acquiring call.now D4) token.new Rest × (token.new.me.1 ≡ []) }
     {
         let word = self.lock_word(call.counter);
-        self.words.return_lock(token, word);
+        let sleepers = self.sleepers_word(call.counter);
+        self.words.give_lock::<N>(token, word, sleepers);
     }
 
     /// D5 where D3 might be run.
@@ -266,16 +259,19 @@ impl SemaTable {
             (Acquiring call.now (Parked turn P)) × (token.new.me.1 ≡ []) }
     {
         let word = self.lock_word(call.counter);
-        self.words.return_lock_from::<AtStay>(token, word);
+        let sleepers = self.sleepers_word(call.counter);
+        self.words
+            .give_lock_from::<AtStay, Futexes>(token, word, sleepers);
     }
 
     /// D5. Asleep again, and not at rest: the grant would be stored for the seat's next sleep.
-    fn unlock_coming(&self, token: &mut Token, call: &Acquire, turn: u64)
+    fn unlock_coming<N: Kernel>(&self, token: &mut Token, call: &Acquire, turn: u64)
         requires { Holds self.now token.old (Acquiring call.now (Parked turn D5)) }
         ensures { Moves token.old (Acquiring call.now (Parked turn D5)) token.new
             (Acquiring call.now (Parked turn P)) × (token.new.me.1 ≡ []) }
     {
         let word = self.lock_word(call.counter);
-        self.words.return_lock(token, word);
+        let sleepers = self.sleepers_word(call.counter);
+        self.words.give_lock::<N>(token, word, sleepers);
     }
 }

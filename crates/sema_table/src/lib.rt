@@ -22,7 +22,7 @@
 //! to have seen one journal. Each atomic step is one row of the step table, in every schedule, and the
 //! contract of a call has a path of such rows and the entries of the journal that they told (`rows`), and
 //! says what the call is to its caller, without rows (`caller`); [`law_of_the_table`] says that the table is
-//! lawful between any two of them.
+//! lawful between any two of them, and [`law_of_the_sleepers`] that no thread sleeps on that should be woken.
 //!
 //! A table has 1 to 65,536 counters, 1 to 65,536 seats and 1 to 251 roots; a counter starts below 2^32, and a
 //! seat spends at most 2^54 units, and all together 2^62: those that it adds, and one for each wait that it takes
@@ -76,7 +76,7 @@ pub use answers::{
     Acquired, Entered, GaveUp, Polled, PostRefused, Posted, Retried, Roused, Tried, Wake,
 };
 pub use closed::Closed;
-pub use laws::law_of_the_table;
+pub use laws::{law_of_the_sleepers, law_of_the_table};
 pub use many_seat::{OwingMany, PostedMany};
 pub use seat::{Leaver, Owing, Seat, Sleeping, Woken};
 pub use sema_table::SemaTable;

@@ -16,7 +16,7 @@ use crate::answers::{Entered, Tried};
 use crate::rows::Token;
 use crate::seat::{Numbers, Seat, Sleeping};
 use crate::sema_table::{MOST_TRIES, SemaTable, counter_word};
-use running_rows::Here;
+use running_rows::{Futexes, Here, Kernel};
 use std::sync::Wait;
 use step_table::{Acquire, AcquireRow, Place};
 use waiters::{CounterId, WaitId};
@@ -52,14 +52,17 @@ impl SemaTable {
         let mut token = token;
         let place = Place::Acquiring(call, AcquireRow::A3);
         self.lock(rt, &mut token, call.counter, &place);
-        let entered = self.enter_locked(token, numbers, &call);
-        self.rouse_behind(&entered, call.counter);
-        entered
+        self.enter_locked::<Futexes>(token, numbers, &call)
     }
 
     /// The rows from A4 on, up to the one that gives the lock back.
     #[inline]
-    pub(crate) fn enter_locked(&self, token: Token, numbers: Numbers, call: &Acquire) -> Entered
+    pub(crate) fn enter_locked<N: Kernel>(
+        &self,
+        token: Token,
+        numbers: Numbers,
+        call: &Acquire,
+    ) -> Entered
         requires { (s : Token) × HasLocked self.now s numbers (Acquiring call.now A3) token }
         ensures { (s : Token) → HasLocked self.now s numbers (Acquiring call.now A3) token
             → IsEntered (seat_of s numbers) call.now (Acquiring call.now A3) result }
@@ -68,7 +71,7 @@ impl SemaTable {
         self.raise(&mut token, call);
         if self.look_again(&mut token, call) {
             self.lower(&mut token, call);
-            self.unlock_taken(&mut token, call);
+            self.unlock_taken::<N>(&mut token, call);
             let numbers = Numbers {
                 taken: numbers.taken + 1,
                 ..numbers
@@ -80,7 +83,7 @@ impl SemaTable {
             seat: numbers.id(),
             turn,
         };
-        self.queue(&mut token, call, waiters::Wait { id, ticket: 0 });
+        self.queue::<N>(&mut token, call, waiters::Wait { id, ticket: 0 });
         let numbers = Numbers {
             turns: turn + 1,
             ..numbers
@@ -162,17 +165,18 @@ impl SemaTable {
     }
 
     /// A9.
-    fn unlock_taken(&self, token: &mut Token, call: &Acquire)
+    fn unlock_taken<N: Kernel>(&self, token: &mut Token, call: &Acquire)
         requires { Holds self.now token.old (Acquiring call.now A9) }
         ensures { Moves token.old (Acquiring call.now A9) token.new Rest × (token.new.me.1 ≡ []) }
     {
         let word = self.lock_word(call.counter);
-        self.words.return_lock(token, word);
+        let sleepers = self.sleepers_word(call.counter);
+        self.words.give_lock::<N>(token, word, sleepers);
     }
 
     /// A7. Queued in the hold of the lock in which 0 was read: a release that saw the waiter word waits for
     /// this lock, and finds the wait.
-    fn queue(&self, token: &mut Token, call: &Acquire, wait: waiters::Wait)
+    fn queue<N: Kernel>(&self, token: &mut Token, call: &Acquire, wait: waiters::Wait)
         requires seat { Stands self.now token.old (Acquiring call.now A7)
             × HasRecord token.old call.now.counter
             × HasRoom token.old call.now.counter }
@@ -185,6 +189,7 @@ impl SemaTable {
     {
         self.insert(token, call, wait);
         let word = self.lock_word(call.counter);
-        self.words.return_lock(token, word);
+        let sleepers = self.sleepers_word(call.counter);
+        self.words.give_lock::<N>(token, word, sleepers);
     }
 }

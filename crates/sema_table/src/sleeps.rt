@@ -8,7 +8,7 @@ use crate::answers::{Polled, Roused};
 use crate::rows::Token;
 use crate::seat::Sleeping;
 use crate::sema_table::SemaTable;
-use running_rows::{GivesWay, Patience};
+use running_rows::{GivesWay, Patience, time_left};
 use std::sync::Wait;
 use std::time::{Clock, Duration, Instant};
 
@@ -18,14 +18,6 @@ const PATIENCE: Patience = Patience {
     looks: 2_000,
     gives_way: GivesWay::Never,
 };
-
-/// How much time is left until the deadline: none where the clock can't be read.
-pub(crate) fn time_left<R: Clock>(rt: &R, deadline: Instant) -> Duration {
-    match Instant::now(rt) {
-        Ok(now) => deadline.saturating_duration_since(now),
-        Err(_) => Duration::ZERO,
-    }
-}
 
 impl SemaTable {
     /// Waits until the seat's wait is granted: looks for a while, and then sleeps (Go's `goparkunlock` and
@@ -116,7 +108,7 @@ impl SemaTable {
 
     /// Returns once something is granted to the seat, and perhaps before; where a longest time is given, once
     /// that is over too.
-    #[tactic(auto, using(crate::proofs::Owned::aside_in))]
+    #[tactic(auto, using(crate::proofs::Owned::grant_sleeps, crate::proofs::Owned::misses_aside))]
     fn await_grant<R: Wait>(&self, rt: &R, token: &mut Token, seat: u16, longest: Option<Duration>)
         requires own { token.old.table_id ≡ self.now.id }
         requires there { seat < self.now.setting.seats }

@@ -13,6 +13,7 @@ use crate::task_answers::{
 use crate::task_seat::{Stage, TaskSeat};
 use crate::tasks::TaskTable;
 use crate::waking_many::WokenSeats;
+use running_rows::NoThreads;
 use waiters::CounterId;
 
 impl TaskTable {
@@ -59,7 +60,7 @@ impl TaskTable {
         let TaskSeat { token, numbers, .. } = seat;
         match self
             .table
-            .enter_silently(Seat { token, numbers }, counter, lifo)
+            .try_enter_with::<NoThreads>(Seat { token, numbers }, counter, lifo)
         {
             Ok(Entered::Taken(seat)) => (TaskSeat::resting(seat), Ok(TaskEntered::Taken)),
             Ok(Entered::Asleep(asleep)) => (TaskSeat::sleeping(asleep), Ok(TaskEntered::Asleep)),
@@ -106,7 +107,7 @@ impl TaskTable {
             call,
             turn,
         };
-        match self.table.leave_silently(asleep) {
+        match self.table.try_leave_with::<NoThreads>(asleep) {
             Ok(GaveUp::Left(seat)) => (TaskSeat::resting(seat), Ok(TaskGaveUp::Left)),
             Ok(GaveUp::Coming(asleep)) => (TaskSeat::sleeping(asleep), Ok(TaskGaveUp::Coming)),
             Ok(GaveUp::Woken(woken)) => (TaskSeat::woken(woken), Ok(TaskGaveUp::Woken)),
@@ -154,7 +155,7 @@ impl TaskTable {
             numbers,
             counter,
         };
-        match self.table.wake_silently(owing, handoff) {
+        match self.table.try_wake_with::<NoThreads>(owing, handoff) {
             Ok((seat, wake)) => (TaskSeat::resting(seat), Ok(wake)),
             Err(owing) => (TaskSeat::owing(owing), Err(TaskRefused::Busy)),
         }
@@ -175,7 +176,7 @@ impl TaskTable {
             numbers,
             call,
         };
-        match self.table.wake_some_silently(owing) {
+        match self.table.try_wake_some_with::<NoThreads>(owing) {
             Ok((seat, seats)) => (TaskSeat::resting(seat), Ok(seats)),
             Err(owing) => (TaskSeat::owing_many(owing), Err(TaskRefused::Busy)),
         }

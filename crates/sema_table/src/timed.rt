@@ -7,7 +7,7 @@ ghost use Rattle.sema_table.specs.CallersTimed.{seat_in, SleepsIn, IsToTry, With
 use crate::answers::{Acquired, Entered, GaveUp, Polled, Retried, Roused};
 use crate::seat::{Seat, Sleeping, Woken};
 use crate::sema_table::SemaTable;
-use crate::sleeps::time_left;
+use running_rows::time_left;
 use std::sync::Wait;
 use std::time::{Clock, Duration, Instant};
 use waiters::CounterId;

@@ -4,7 +4,7 @@ ghost use Rattle.step_table.specs.declared.entry.Entry.TheVariants.{Leave, Take}
 ghost use Rattle.step_table.specs.declared.place.Place.TheVariants.{Rest, Releasing};
 ghost use Rattle.step_table.specs.declared.place.ReleaseRow.TheVariants.{R3, R4, R5, R6, R7, R9, R10};
 ghost use Rattle.sema_table.specs.Seats.{Token, IsToken, table_of, seat_of};
-ghost use Rattle.sema_table.specs.AtLock.{HasLocked, HasGranted, IsGranted};
+ghost use Rattle.sema_table.specs.AtLock.{HasLocked};
 ghost use Rattle.sema_table.specs.Waking.{IsWakened, WakesFrom};
 ghost use Rattle.sema_table.specs.Walks.{Stands, Starts, Holds, SawHeld, Locked, Walked, Moves, Changed, HasRecord, Granted};
 ghost use Rattle.sema_table.specs.Walks.{moved_to, taken_out, sought, trying, unlocked, granting, grant_of};
@@ -16,7 +16,7 @@ use crate::answers::{Tried, Wake};
 use crate::rows::Token;
 use crate::seat::{Numbers, Owing, Seat};
 use crate::sema_table::{MOST_TRIES, SemaTable, counter_word};
-use running_rows::Here;
+use running_rows::{Futexes, Here, Kernel};
 use std::sync::Wait;
 use step_table::{Place, Release, ReleaseRow};
 use waiters::{CounterId, WaitId};
@@ -57,9 +57,7 @@ impl SemaTable {
         let mut token = token;
         let place = Place::Releasing(Release { counter, handoff }, ReleaseRow::R3);
         self.lock(rt, &mut token, counter, &place);
-        let (seat, wake) = self.wake_locked(token, numbers, &Release { counter, handoff });
-        self.rouse_woken(&seat, counter, &wake);
-        (seat, wake)
+        self.wake_locked::<Futexes>(token, numbers, &Release { counter, handoff })
     }
 
     /// R3 where the root's lock is found free within some tries, and else a look that found it held.
@@ -72,22 +70,25 @@ impl SemaTable {
         self.try_lock(token, call.counter, &place)
     }
 
-    /// The rows from R4 on. The kernel is not called: who sleeps there is for another to wake, if anybody
-    /// ever does.
-    pub(crate) fn wake_locked(&self, token: Token, numbers: Numbers, call: &Release) -> (Seat, Wake)
+    /// The rows from R4 on.
+    pub(crate) fn wake_locked<N: Kernel>(
+        &self,
+        token: Token,
+        numbers: Numbers,
+        call: &Release,
+    ) -> (Seat, Wake)
         requires { (s : Token) × HasLocked self.now s numbers (Releasing call.now R3) token }
-        ensures wakes { (s : Token) → HasLocked self.now s numbers (Releasing call.now R3) token
+        ensures { (s : Token) → HasLocked self.now s numbers (Releasing call.now R3) token
             → WakesFrom (seat_of s numbers) call.now result.0 result.1 }
-        ensures stored { HasGranted self.now result.0 result.1 }
     {
         let mut token = token;
         let first = self.take_first(&mut token, call);
-        self.unlock_released(&mut token, call);
+        self.unlock_released::<N>(&mut token, call);
         let Some(id) = first else {
             return (Seat { token, numbers }, Wake::Nobody);
         };
         let handed = self.take_for(&mut token, call, &id);
-        self.grant(&mut token, call, &id, handed);
+        self.grant::<N>(&mut token, call, &id, handed);
         if handed {
             return (Seat { token, numbers }, Wake::Handed(id));
         }
@@ -149,13 +150,14 @@ impl SemaTable {
     }
 
     /// R6. Given back before the waiter is told: told earlier, it would run into the lock that is still held.
-    fn unlock_released(&self, token: &mut Token, call: &Release)
+    fn unlock_released<N: Kernel>(&self, token: &mut Token, call: &Release)
         requires { Holds self.now token.old (Releasing call.now R6) }
         ensures { Moves token.old (Releasing call.now R6) token.new (unlocked token.old call.now)
             × (token.new.me.1 ≡ []) }
     {
         let word = self.lock_word(call.counter);
-        self.words.return_lock(token, word);
+        let sleepers = self.sleepers_word(call.counter);
+        self.words.give_lock::<N>(token, word, sleepers);
     }
 
     /// R7 and R8 of a release with handoff, and else nothing: whether a unit was taken for the wait in hand.
@@ -220,17 +222,20 @@ impl SemaTable {
         Tried::Taken
     }
 
-    /// R9 where a unit was taken for the wait in hand, and else R10: its seat is granted.
-    fn grant(&self, token: &mut Token, call: &Release, id: &WaitId, handed: bool)
+    /// R9 where a unit was taken for the wait in hand, and else R10: its seat is granted, and woken where its
+    /// thread sleeps.
+    fn grant<N: Kernel>(&self, token: &mut Token, call: &Release, id: &WaitId, handed: bool)
         requires seat { Stands self.now token.old (granting call.now handed)
             × (token.old.me.0.own.knows.hand ≡ id.now ∷ []) }
         requires there { id.now.seat < self.now.setting.seats }
         ensures granted { Granted token.old (granting call.now handed) token.new }
         ensures slots { token.new.me.1 ≡ token.old.me.1 }
-        ensures stored { IsGranted self.now token.new id.now.seat (grant_of handed) }
     {
-        let word = self.grant_word(id.seat.number());
-        self.words.store_grant(token, word, granted_units(handed));
+        let seat = id.seat.number();
+        let word = self.grant_word(seat);
+        let asleep = self.asleep_word(seat);
+        self.words
+            .grant::<N>(token, word, asleep, granted_units(handed));
     }
 }
 

@@ -19,7 +19,7 @@ use crate::rows::Token;
 use crate::seat::{Numbers, Seat};
 use crate::sema_table::SemaTable;
 use arrayvec::ArrayVec;
-use running_rows::Here;
+use running_rows::{Futexes, Here, Kernel};
 use std::sync::Wait;
 use step_table::{ManyRow, Place, ReleaseMany};
 use waiters::WaitId;
@@ -63,8 +63,7 @@ impl SemaTable {
         let place = Place::ReleasingMany(*call, ManyRow::M3);
         self.lock(rt, &mut token, call.counter, &place);
         let mut hand = WokenSeats::new();
-        let seat = self.wake_some_locked(token, numbers, call, &mut hand);
-        self.rouse_each(&seat, call.counter, hand.as_slice());
+        let seat = self.wake_some_locked::<Futexes>(token, numbers, call, &mut hand);
         let woken = hand.len() as u32;
         (seat, woken)
     }
@@ -79,8 +78,8 @@ impl SemaTable {
         self.try_lock(token, call.counter, &place)
     }
 
-    /// The rows from M4 on. The kernel is not called, as by `wake_locked`.
-    pub(crate) fn wake_some_locked(
+    /// The rows from M4 on.
+    pub(crate) fn wake_some_locked<N: Kernel>(
         &self,
         token: Token,
         numbers: Numbers,
@@ -89,14 +88,13 @@ impl SemaTable {
     ) -> Seat
         requires seat { (s : Token) × HasLocked self.now s numbers (ReleasingMany call.now M3) token }
         requires hand { (hand.old.items ≡ []) × HasUnits call.now }
-        ensures wakes { (s : Token) → HasLocked self.now s numbers (ReleasingMany call.now M3) token
+        ensures { (s : Token) → HasLocked self.now s numbers (ReleasingMany call.now M3) token
             → WakesSeats (seat_of s numbers) call.now result hand.new.items }
-        ensures there { All (λ k. k < self.now.setting.seats) hand.new.items }
     {
         let mut token = token;
         self.take_waits(&mut token, call, hand);
-        self.unlock_many(&mut token, call);
-        self.grant_all(&mut token, call, hand.as_slice());
+        self.unlock_many::<N>(&mut token, call);
+        self.grant_all::<N>(&mut token, call, hand.as_slice());
         Seat { token, numbers }
     }
 
@@ -157,7 +155,7 @@ impl SemaTable {
 
     /// M6. Given back before the first waiter is told: told earlier, it would run into the lock that is still
     /// held.
-    fn unlock_many(&self, token: &mut Token, call: &ReleaseMany)
+    fn unlock_many<N: Kernel>(&self, token: &mut Token, call: &ReleaseMany)
         requires { Holds self.now token.old (ReleasingMany call.now M6) }
         ensures walked { Moves token.old (ReleasingMany call.now M6) token.new
             (to_grant call.now token.old.me.0.own.knows.hand) }
@@ -165,11 +163,12 @@ impl SemaTable {
         ensures there { All (λ w. w.seat < self.now.setting.seats) token.new.me.0.own.knows.hand }
     {
         let word = self.lock_word(call.counter);
-        self.words.return_lock(token, word);
+        let sleepers = self.sleepers_word(call.counter);
+        self.words.give_lock::<N>(token, word, sleepers);
     }
 
     /// M7 for each wait in hand, of which these are the seats.
-    fn grant_all(&self, token: &mut Token, call: &ReleaseMany, seats: &[u16])
+    fn grant_all<N: Kernel>(&self, token: &mut Token, call: &ReleaseMany, seats: &[u16])
         requires seat { MayGrant self.now token.old call.now }
         requires seats { seats.now ≡ map (λ w. w.seat) token.old.me.0.own.knows.hand }
         requires there { All (λ w. w.seat < self.now.setting.seats) token.old.me.0.own.knows.hand }
@@ -178,18 +177,19 @@ impl SemaTable {
             (with_hand token.old Rest []) }
     {
         for seat in seats {
-            self.grant_one(token, call, *seat);
+            self.grant_one::<N>(token, call, *seat);
         }
     }
 
-    /// M7: the seat of the first wait in hand is granted.
-    fn grant_one(&self, token: &mut Token, call: &ReleaseMany, seat: u16)
+    /// M7: the seat of the first wait in hand is granted, and woken where its thread sleeps.
+    fn grant_one<N: Kernel>(&self, token: &mut Token, call: &ReleaseMany, seat: u16)
         requires seat { Stands self.now token.old (ReleasingMany call.now M7)
             × (waiter token.old.me.0.own.number token.old.me.0.own.knows.hand ≡ seat) }
         requires there { seat < self.now.setting.seats }
         ensures { GrantedFirst token.old call.now token.new }
     {
         let word = self.grant_word(seat);
-        self.words.store_grant(token, word, 1);
+        let asleep = self.asleep_word(seat);
+        self.words.grant::<N>(token, word, asleep, 1);
     }
 }

@@ -6,7 +6,7 @@ use lib.ListN.{get_elem?}
 use prog.Atomic.{either}
 use Rattle.running_rows.specs.Table as atomic
 use Rattle.running_rows.proofs.Lists.{exchanged}
-use Rattle.step_table.specs.Path.{runs, looks, Ran}
+use Rattle.step_table.specs.Path.{runs, Ran}
 use Rattle.step_table.proofs.Paths.{goes_on_here}
 use Rattle.running_rows.specs.declared.view.View.{View}
 use Rattle.running_rows.specs.declared.view.Seated.{Seated}

@@ -5,7 +5,7 @@ use mathlib.Core.Logic.{dite}
 use native.Mathlib.Decide.{dec_le}
 use Rattle.running_rows.specs.declared.view.Seated.{Seated}
 use Rattle.running_rows.specs.History.{SeatStride, strides_of}
-use Rattle.running_rows.specs.Rule.{In, IsSeated, Sits, IsKept}
+use Rattle.running_rows.specs.Rule.{In, IsSeated, Sits, IsKept, Holds}
 use Rattle.sync_guarded.specs.declared.view.GuardKnown.{GuardKnown}
 use Rattle.sync_guarded.specs.declared.view.GuardCall.{GuardCall}
 use Rattle.sync_guarded.specs.declared.view.GuardDeed.{GuardDeed}
@@ -82,8 +82,8 @@ module _ {T : Type 0} (seats : ℕ) (s : WordState T) (r : IsKept guard_rows sea
     pub of_a_seat : IsOfASeat s m
     of_a_seat = dite (dec_le r.made m.seat) (λ far. absurd (made far)) (λ near. seated (lt_of_not-le near))
 
-pub the_guard : {T : Type 0} → TheGuard {T = T} (IsKept guard_rows)
-the_guard seats s r = record {
+pub the_guard : {T : Type 0} → TheGuard {T = T} (Holds guard_rows)
+the_guard seats s h = let r = h.kept in record {
   first = r.world.first;
   at = r.world.at;
   history = r.world.history;

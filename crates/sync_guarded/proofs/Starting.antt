@@ -1,14 +1,27 @@
 -- A guarded value as it is made.
-use Rattle.std.proofs.Common.{◌≡◌, ℕ, zero, suc, ◌+◌, ◌<◌, false, length, length-append, List, [], ◌∷◌, ◌++◌, map, refl, sym, ap}
+use Rattle.std.proofs.Common.{◌≡◌, ℕ, zero, suc, ◌+◌, ◌<◌, length, length-append, List, [], ◌∷◌, ◌++◌, map, refl, sym, ap, inl, slice_index, slice_set}
 use Rattle.std.proofs.Common.{◌∙◌, subst, arith}
 use Rattle.std.specs.List.{All, range_with_len}
 use Rattle.std.proofs.lemmas.List.{map-append}
 use Rattle.std.proofs.lemmas.List.Elements.{All-map}
 use mathlib.Core.Option as slot
-use Rattle.running_rows.specs.Rule.{Opens}
-use Rattle.sync_guarded.specs.Rule.{home, guard_rows}
+use Rattle.running_rows.specs.Rule.{AreFutexes, Opens}
+use Rattle.running_rows.specs.Futex.{Futex}
+use Rattle.sync_guarded.specs.Rule.{home, guard_rows, ShowsGuard}
+use Rattle.sync_guarded.proofs.Keeping.{sleepers_aside}
 use Rattle.sync_guarded.specs.Seats.{GuardedModel, SeatModel}
 use Rattle.sync_guarded.specs.Making.{new_seat}
+
+-- threads sleep at the lock alone
+pub futexes : {T : Type 0} (seats : ℕ) → AreFutexes (guard_rows {T = T}) seats
+futexes seats = record {
+  two = λ x is e. let a = ap (λ (z : Futex). z.word) is in let b = ap (λ (z : Futex). z.sleepers) is in absurd (omega (arith, e));
+  apart = λ x y is also. inl (is ∙ sym also);
+  there = λ x world words homes is shows. let a = ap (λ (z : Futex). z.word) is in let b = ap (λ (z : Futex). z.sleepers) is in
+      let w = shows.wide in (omega arith, omega arith);
+  unseen = λ x world words homes n is shows. subst (λ (z : Futex). ShowsGuard seats world (slice_set words z.sleepers n) homes) (sym is)
+      (sleepers_aside seats world words homes n shows);
+}
 
 pub opens : {T : Type 0} (seats : ℕ) (x : T) → 0 < seats → Opens guard_rows seats (0 ∷ 0 ∷ []) (slot.some x ∷ [])
 opens seats x some_seats = record {
@@ -17,6 +30,8 @@ opens seats x some_seats = record {
   unwritten = refl;
   unmade = λ n low. record { own = refl; holds = refl };
   some_seats = some_seats;
+  futexes = futexes seats;
+  none_sleep = λ y is. ap (λ (z : Futex). slice_index (0 ∷ 0 ∷ []) z.sleepers) is;
 }
 
 -- one number more

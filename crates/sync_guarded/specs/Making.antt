@@ -5,6 +5,7 @@ use Rattle.sema_table.specs.declared.setup_error.SetupError.{SetupError}
 use Rattle.sema_table.specs.declared.setup_error.SetupError.TheVariants.{Seats, NoMemory}
 use Rattle.sema_table.specs.Making.{IsFromOne, IsOutside, most_seats}
 use Rattle.running_rows.specs.declared.view.View.{View}
+use Rattle.running_rows.specs.Futex.{fresh_parking}
 use Rattle.sync_guarded.specs.declared.view.GuardKnown.{GuardKnown}
 use Rattle.sync_guarded.specs.declared.view.GuardCall.{GuardCall}
 use Rattle.sync_guarded.specs.Rule.{idle}
@@ -13,7 +14,7 @@ use Rattle.sync_guarded.specs.Seats.{GuardedModel, SeatModel}
 -- the view of the seat 0 as it has made so many of these seats, itself among them
 abbrev pub has_made : {T : Type 0} → ℕ → ℕ → View (GuardKnown T) (GuardCall T)
 has_made seats made =
-    record { own = record { number = 0; knows = idle seats; gone = [] }; guests = []; made = made }
+    record { own = record { number = 0; knows = idle seats; gone = [] }; guests = []; made = made; parking = fresh_parking }
 
 -- a seat that has called nothing
 abbrev pub new_seat : {T : Type 0} → GuardedModel → ℕ → SeatModel T

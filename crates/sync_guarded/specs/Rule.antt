@@ -7,6 +7,7 @@ use mathlib.Core.Option as slot
 use Rattle.running_rows.specs.Words as words
 use Rattle.running_rows.specs.declared.view.Seated.{Seated}
 use Rattle.running_rows.specs.Family.{Family}
+use Rattle.running_rows.specs.Futex.{lock_at}
 use Rattle.running_rows.specs.History.{SeatStride, strides_of}
 use Rattle.running_rows.specs.Rule.{In}
 use Rattle.step_table.specs.EventOf.{EventOf, take_lock, give_lock}
@@ -164,6 +165,8 @@ guard_rows {T} = record {
   Also = λ s i v call w. IsTurn v.holds call w.holds;
   HasStored = λ seats call i x. ⊥;
   HasGiven = HasGiven;
+  IsFutex = λ seats x. x ≡ lock_at 0 1;
+  MayPass = λ v. ⊥;
   fresh_is = λ seats. refl;
   nobody_is = refl;
 }

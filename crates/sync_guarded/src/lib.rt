@@ -26,6 +26,6 @@ mod view;
 
 pub use guard::Guard;
 pub use guarded::{GuardSeat, Guarded};
-pub use laws::law_of_the_guards;
+pub use laws::{law_of_the_guards, law_of_the_sleepers};
 pub use make::Refused;
 pub use sync_parts::{Cond, ListSeat, ListSetupError, SetupError, Waited};

@@ -6,7 +6,7 @@ ghost use Rattle.sync_guarded.specs.Calls.{HasLocked, HasFoundHeld, HasUnlocked,
 
 use crate::guarded::{Guarded, LOCK, SLEEPERS, VALUE};
 use crate::rows::GuardToken;
-use running_rows::{Here, Running};
+use running_rows::{Futexes, Here, Running};
 use std::sync::Wait;
 use std::time::{Clock, Instant};
 
@@ -67,7 +67,7 @@ impl<T> Guarded<T> {
         ensures own { IsGuard self.now token.new false }
         ensures unlocked { HasUnlocked (guard_of token.old) (guard_of token.new) }
     {
-        self.words.give_lock(token, LOCK, SLEEPERS);
+        self.words.give_lock::<Futexes>(token, LOCK, SLEEPERS);
     }
 
     /// Lends the value, which is out with the token, for one call.

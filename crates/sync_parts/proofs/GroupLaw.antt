@@ -7,7 +7,7 @@ use native.Mathlib.Decide.{dec_le}
 use Rattle.running_rows.specs.Table.{State}
 use Rattle.running_rows.specs.declared.view.Seated.{Seated}
 use Rattle.running_rows.specs.History.{SeatStride, strides_of}
-use Rattle.running_rows.specs.Rule.{In, IsSeated, Sits, IsKept}
+use Rattle.running_rows.specs.Rule.{In, IsSeated, Sits, IsKept, Holds}
 use Rattle.sync_parts.specs.declared.group_view.GroupKnown.{GroupKnown}
 use Rattle.sync_parts.specs.declared.group_view.GroupStep.{GroupStep}
 use Rattle.sync_parts.specs.GroupPlays.{GroupView}
@@ -67,8 +67,8 @@ module _ (seats : ℕ) (s : State (Unit {0}) GroupView) (r : IsKept group_rows s
   pub of_a_seat : IsOfASeat seats s m
   of_a_seat = dite (dec_le r.made m.seat) (λ far. absurd (made far)) (λ near. seated (lt_of_not-le near))
 
-pub the_group : TheGroup (IsKept group_rows)
-the_group seats s r = record {
+pub the_group : TheGroup (Holds group_rows)
+the_group seats s h = let r = h.kept in record {
   history = r.world.history;
   leads = subst (Leads empty_word r.world.history) (sym r.shows.word_is) r.shows.leads;
   each = of_a_seat seats s r;

@@ -21,6 +21,13 @@ opens seats homes some_seats = record {
   unwritten = refl;
   unmade = λ n low. record { own = refl; calls = refl };
   some_seats = some_seats;
+  futexes = record {
+    two = λ x is. absurd is;
+    apart = λ x y is. absurd is;
+    there = λ x world words homes is. absurd is;
+    unseen = λ x world words homes n is. absurd is;
+  };
+  none_sleep = λ x is. absurd is;
 }
 
 -- the numbers of new seats

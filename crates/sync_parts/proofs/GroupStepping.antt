@@ -20,6 +20,7 @@ use Rattle.step_table.specs.GroupBits.{bits_of, word_in, high, bits_after, Compa
 use Rattle.step_table.proofs.GroupBits.{the_group_words}
 use Rattle.running_rows.specs.Strides.{RanRow, here, runs_access, runs_store}
 use Rattle.running_rows.specs.Owing.{Owes}
+use Rattle.running_rows.specs.Parking.{back_at}
 use Rattle.sync_parts.specs.declared.group_view.GroupKnown.{GroupKnown}
 use Rattle.sync_parts.specs.GroupRule.{Follows, group_rows}
 use Rattle.sync_parts.specs.GroupPlays.{Me, Token, Steps, step, stepped, load_row, given_up, at_row, at_add, at_load, at_leave}
@@ -109,7 +110,7 @@ pub ran_steps : (s t : Token) (begin : GroupKnown → GroupKnown) (row : GroupRo
 ran_steps s t begin row n begins table told = record {
   word = subst IsGroupWord told.0.read told.0.also.word;
   table_is = table;
-  me_is = told.1 ∙ (λ i. (record s.me.0 { own = own_is i }, s.me.1));
+  me_is = told.1 ∙ (λ i. (record s.me.0 { own = own_is i; parking = back_at s.me.0.parking t.me.0.parking }, s.me.1));
 }
   where
     goes_to : GroupNext → GroupRow

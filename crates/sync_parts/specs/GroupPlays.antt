@@ -1,6 +1,7 @@
 -- What each kind of step on the state word tells its seat.
 use Rattle.std.specs.Prelude.{◌≡◌, ◌/◌, ◌^◌, [], ◌∷◌, ◌++◌}
 use Rattle.std.specs.Int.{w32, cast_signed}
+use Rattle.running_rows.specs.Parking.{back_at}
 use Rattle.running_rows.specs.Table as atomic
 use Rattle.running_rows.specs.Words as words
 use Rattle.step_table.specs.declared.call.GivingUp.{GivingUp}
@@ -65,8 +66,9 @@ at_load st v = at_row (load_row v.next) v
 abbrev pub at_leave : atomic.Step (Unit {0}) → GroupKnown → GroupKnown
 at_leave st v = at_row (V4 given_up) v
 
--- the row ran, and found this word; nothing else changed
+-- the row ran, and found this word; nothing else changed but what the thread did with sleepers
 pub record Steps (s : Token) (row : GroupRow) (found : GroupWord) (t : Token) : Type 0 where
   pub word : IsGroupWord found
   pub table_is : t.table_id ≡ s.table_id
-  pub me_is : t.me ≡ (stepped row found s.me.0, s.me.1)
+  pub me_is : t.me
+      ≡ (record (stepped row found s.me.0) { parking = back_at s.me.0.parking t.me.0.parking }, s.me.1)

@@ -123,6 +123,8 @@ group_rows = record {
   Also = λ s i. LedOn;
   HasStored = λ seats p i x. ⊥;
   HasGiven = λ p slots. ⊥;
+  IsFutex = λ seats x. ⊥;
+  MayPass = λ v. ⊥;
   fresh_is = λ seats. refl;
   nobody_is = refl;
 }

@@ -1,5 +1,6 @@
 use Rattle.std.proofs.Common.{◌≡◌, ◌+◌, ◌-◌, ◌≤◌, List, length, []}
 use Rattle.running_rows.specs.Rule.{fresh_seat}
+use Rattle.running_rows.specs.Futex.{fresh_parking}
 use Rattle.sema_table.specs.Rule.{setting_of}
 use Rattle.sema_table.specs.Rows.{semaphore_rows}
 use Rattle.sema_table.specs.Seats.{SeatModel}
@@ -9,7 +10,7 @@ use Rattle.sema_table.proofs.make.make.Given as goal
 abbrev pub invariant-loop-number : goal.invariant-loop-number
 invariant-loop-number l = record {
   same : l.first.table_id ≡ l.words.table.shared.table_id;
-  first : l.first.me ≡ (record { own = fresh_seat semaphore_rows (setting_of l.settings) 0; guests = []; made = l.number }, []);
+  first : l.first.me ≡ (record { own = fresh_seat semaphore_rows (setting_of l.settings) 0; guests = []; made = l.number; parking = fresh_parking }, []);
   made : ◌≡◌ {A = List SeatModel} l.made.items
       (new_seats (record { id = l.words.table.shared.table_id; setting = setting_of l.settings }) 1 (l.number - 1));
   count : length l.made.items + 1 ≡ l.number;

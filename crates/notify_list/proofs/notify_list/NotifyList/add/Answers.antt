@@ -5,6 +5,7 @@ use Rattle.notify_list.specs.Plays.{at_ticket}
 use Rattle.notify_list.specs.Seats.{SeatModel, seat_of, stands_of}
 use Rattle.notify_list.specs.Tickets.{IsAdded}
 use Rattle.notify_list.proofs.Owned.{own, low_word, owned}
+use Rattle.notify_list.proofs.Futexes.{plain_low}
 use Rattle.notify_list.proofs.Allowing.{row_goes}
 use Rattle.notify_list.proofs.Taking.{next_is, added, holding}
 use Rattle.notify_list.proofs.Answering.{is_sound}
@@ -20,9 +21,12 @@ add-ticket-requires c =
         owned x c.self.invariant s at,
         (
           low_word x c.self.invariant 0 (omega arith),
-          row_goes s.me (at_place Adding (stands_of s)) (adds seat.free seat.holds_none) at_ticket refl _ 0
-              (λ n. (n + 1) % 2 ^ 64) (λ e. absurd (omega arith))
-              (λ w n known. record { word = refl; there = tt; can = refl; becomes = next_is n }),
+          (
+            plain_low x.words.table.shared.key 0 (omega arith),
+            row_goes s.me (at_place Adding (stands_of s)) (adds seat.free seat.holds_none) at_ticket refl _ 0
+                (λ n. (n + 1) % 2 ^ 64) (λ e. absurd (omega arith))
+                (λ w n known. record { word = refl; there = tt; can = refl; becomes = next_is n }),
+          ),
         ),
       ),
     )

@@ -1,5 +1,6 @@
 use Rattle.std.proofs.Common.{ℕ, refl, sym, ◌∙◌, arith}
 use Rattle.notify_list.proofs.Owned.{low_word, owned}
+use Rattle.notify_list.proofs.Futexes.{plain_low}
 use Rattle.notify_list.proofs.Allowing.{goes_at, stores_at}
 use Rattle.notify_list.proofs.Forgoing.{list_forgo, stands_forgo, may_let_go, list_let_go, stands_let_go, stores_it, forwent}
 use Rattle.notify_list.proofs.notify_list.NotifyList.forgo.Goals as goal
@@ -35,13 +36,16 @@ store-requires c =
         owned x c.self.invariant y (list_let_go l s t word may u v E.went E.own next y go ∙ sym c.self.view_is),
         (
           low_word x c.self.invariant 1 (omega arith),
-          stores_at _ y.me 1 _ (stands_let_go l s t word may u v E.went E.own next y go) next (λ e. absurd (omega arith))
-              (λ w n known. record {
-                word = refl;
-                there = tt;
-                can = refl;
-                becomes = stores_it l s t word may u v E.went E.own next y go w n known;
-              }),
+          (
+            plain_low x.words.table.shared.key 1 (omega arith),
+            stores_at _ y.me 1 _ (stands_let_go l s t word may u v E.went E.own next y go) next (λ e. absurd (omega arith))
+                (λ w n known. record {
+                  word = refl;
+                  there = tt;
+                  can = refl;
+                  becomes = stores_it l s t word may u v E.went E.own next y go w n known;
+                }),
+          ),
         ),
       ),
     )

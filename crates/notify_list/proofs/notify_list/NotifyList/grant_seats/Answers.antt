@@ -7,10 +7,10 @@ use Rattle.notify_list.specs.Seats.{stands_of}
 use Rattle.notify_list.proofs.notify_list.NotifyList.grant_seats.Goals as goal
 
 pub loop-seat-init : goal.loop-seat-init
-loop-seat-init c = ((λ h may. woken_none c.args.self.now c.args.token.now c.args.token.now h may (refl, refl)), refl)
+loop-seat-init g c = ((λ h may. woken_none c.args.self.now c.args.token.now c.args.token.now h may (refl, refl)), refl)
 
 pub grant_first-requires : goal.grant_first-requires
-grant_first-requires c =
+grant_first-requires g c =
     let s = c.args.token.now in let t = c.loop-seat.token in let n : ℕ = c.loop-seat.seat-index in let h : ℕ = c.requires.seat.0 in
     let may = c.requires.seat.1 in let x = c.loop-seat.invariant.0 h may in
     let all : length c.args.seats.now ≡ length (stands_of s).hand = ap length c.requires.seats ∙ length-map (stands_of s).hand (λ (w : Wait). w.id.seat) in
@@ -24,7 +24,7 @@ grant_first-requires c =
     )
 
 pub loop-seat-preserved : goal.loop-seat-preserved
-loop-seat-preserved c = (
+loop-seat-preserved g c = (
   (λ h may.
       let s = c.args.token.now in let t = c.loop-seat.token in let n : ℕ = c.loop-seat.seat-index in let x = c.loop-seat.invariant.0 h may in
       let all : length c.args.seats.now ≡ length (stands_of s).hand = ap length c.requires.seats ∙ length-map (stands_of s).hand (λ (w : Wait). w.id.seat) in
@@ -39,11 +39,11 @@ loop-seat-preserved c = (
 )
 
 pub returns-clause-stored : goal.returns-clause-stored
-returns-clause-stored c = let n : ℕ = c.loop-seat.seat-index in let most : length c.args.seats.now ≤ n = (let k = c.loop-seat-test.false in omega arith) in
+returns-clause-stored g c = let n : ℕ = c.loop-seat.seat-index in let most : length c.args.seats.now ≤ n = (let k = c.loop-seat-test.false in omega arith) in
     subst (λ l. StoresGrants l c.args.token.now.me.0.own.gone c.loop-seat.token.me.0.own.gone) (take_all n c.args.seats.now most) c.loop-seat.invariant.1
 
 pub returns-clause-rows : goal.returns-clause-rows
-returns-clause-rows c h may =
+returns-clause-rows g c h may =
     let s = c.args.token.now in let n : ℕ = c.loop-seat.seat-index in
     let all : length c.args.seats.now ≡ length (stands_of s).hand = ap length c.requires.seats ∙ length-map (stands_of s).hand (λ (w : Wait). w.id.seat) in
     let most : length (stands_of s).hand ≤ n = (let k = c.loop-seat-test.false in omega arith) in

@@ -5,6 +5,6 @@ use Rattle.notify_list.proofs.Wakening.{WokenUpTo}
 use Rattle.notify_list.proofs.notify_list.NotifyList.grant_seats.Given as goal
 
 abbrev pub invariant-loop-seat : goal.invariant-loop-seat
-invariant-loop-seat l =
+invariant-loop-seat g l =
     ((h : ℕ) → MayWake l.fn.self l.fn.token h → WokenUpTo l.fn.token h l.seat-index l.token)
     × StoresGrants (take l.seat-index l.fn.seats) l.fn.token.me.0.own.gone l.token.me.0.own.gone

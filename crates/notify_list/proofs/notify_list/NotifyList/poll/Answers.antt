@@ -3,6 +3,7 @@ use Rattle.notify_list.specs.declared.waited.Polled.TheVariants.{Still, Granted}
 use Rattle.notify_list.specs.Seats.{ListModel, SeatModel, seat_of}
 use Rattle.notify_list.specs.Waiting.{IsPolled}
 use Rattle.notify_list.proofs.Owned.{own, grant_low, owned}
+use Rattle.notify_list.proofs.Futexes.{at_grant}
 use Rattle.notify_list.proofs.Parking.{receives_at, stands_parked, seat_still, polled_still, seat_woken, takes_grant}
 use Rattle.notify_list.proofs.Answering.{is_sound}
 use Rattle.notify_list.proofs.Callers.{polls_still, polls_granted}
@@ -19,7 +20,10 @@ take_grant-found-requires c =
         owned x c.self.invariant s at,
         (
           omega (arith, grant, low),
-          receives_at _ s.me _ _ (stands_parked s n K) K.ticket refl (let j = K.token_is.number_is in omega (arith, grant, j)),
+          (
+            at_grant x.words.table.shared.key n (let k = K.token_is.there in omega (arith, seats, k)) (omega (arith, grant)),
+            receives_at _ s.me _ _ (stands_parked s n K) K.ticket refl (let j = K.token_is.number_is in omega (arith, grant, j)),
+          ),
         ),
       ),
     )

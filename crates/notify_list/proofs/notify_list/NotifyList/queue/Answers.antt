@@ -18,7 +18,7 @@ returns-clause-rows g c =
       list_is = ap (λ (y : SeatModel). y.list) c.holding.view_is ∙ c.requires;
       locked = c.lock.ensures;
     } in
-    subst (λ (y : SeatModel). IsEntered y c.enter-entered.result) c.holding.view_is (c.enter-entered.ensures.rows s may)
+    subst (λ (y : SeatModel). IsEntered y c.enter.result) c.holding.view_is (c.enter.ensures.rows s may)
 
 pub returns-clause-caller : goal.returns-clause-caller
 returns-clause-caller g c =
@@ -28,4 +28,4 @@ returns-clause-caller g c =
       list_is = ap (λ (y : SeatModel). y.list) c.holding.view_is ∙ c.requires;
       locked = c.lock.ensures;
     } in
-    subst (λ (y : SeatModel). EntersWait y c.enter-entered.result) c.holding.view_is (c.enter-entered.ensures.caller s may)
+    subst (λ (y : SeatModel). EntersWait y c.enter.result) c.holding.view_is (c.enter.ensures.caller s may)

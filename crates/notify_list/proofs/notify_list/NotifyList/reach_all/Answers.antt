@@ -3,6 +3,7 @@ use Rattle.notify_list.specs.Plays.{Me}
 use Rattle.notify_list.specs.Seats.{guarded_of}
 use Rattle.notify_list.proofs.Recording.{list_edited}
 use Rattle.notify_list.proofs.Owned.{low_word, owned}
+use Rattle.notify_list.proofs.Futexes.{plain_low}
 use Rattle.notify_list.proofs.Allowing.{goes_at, stores_at}
 use Rattle.notify_list.proofs.Reaching.{stands4, w4, w5, may_pass_all, few_granted, reached_all}
 use Rattle.notify_list.proofs.notify_list.NotifyList.reach_all.Goals as goal
@@ -57,8 +58,11 @@ store-requires c =
         owned x c.self.invariant y at,
         (
           low_word x c.self.invariant 1 (omega arith),
-          stores_at _ y.me 1 _ (ap (λ (m : Me). m.0.own.knows.sight.stands) edit.1.1 ∙ R.stands_is) c.load-waited.result (λ e. absurd (omega arith))
-              (λ w k known. record { word = refl; there = tt; can = refl; becomes = refl }),
+          (
+            plain_low x.words.table.shared.key 1 (omega arith),
+            stores_at _ y.me 1 _ (ap (λ (m : Me). m.0.own.knows.sight.stands) edit.1.1 ∙ R.stands_is) c.load-waited.result (λ e. absurd (omega arith))
+                (λ w k known. record { word = refl; there = tt; can = refl; becomes = refl }),
+          ),
         ),
       ),
     )

@@ -1,7 +1,8 @@
-use Rattle.std.proofs.Common.{ℕ, refl, ap, ◌∙◌, subst, arith}
+use Rattle.std.proofs.Common.{ℕ, ◌<◌, refl, ap, ◌∙◌, subst, arith}
 use Rattle.notify_list.specs.Seats.{ListModel, SeatModel, seat_of}
+use Rattle.notify_list.specs.Setting.{asleep_address}
 use Rattle.notify_list.specs.Waiting.{TakesGrant}
-use Rattle.notify_list.proofs.Owned.{own, low_word, grant_low, owned, aside_in}
+use Rattle.notify_list.proofs.Owned.{own, low_word, grant_low, owned, grant_futex, beside}
 use Rattle.notify_list.proofs.Allowing.{takes_at}
 use Rattle.notify_list.proofs.Parking.{stands_parked, seat_woken, takes_grant, ran_same}
 use Rattle.notify_list.proofs.Answering.{is_sound}
@@ -13,21 +14,29 @@ take_when_granted-requires g c =
     let x = c.self.inside in let s = c.parked.inside.token in let n : ℕ = c.parked.inside.number in let K = c.parked.invariant in
     let at = own x s n c.self.view_is c.parked.view_is c.requires in
     let grant = c.grant_word-grant.ensures in let seats = ap (λ (l : ListModel). l.setting.seats) at in
-    let asleep = aside_in x _ c.self.view_is c.asleep_word-asleep.ensures.at c.asleep_word-asleep.ensures.low in
-    let misses = aside_in x _ c.self.view_is c.misses_word-misses.ensures.at c.misses_word-misses.ensures.low in
+    let from = c.from-seat.ensures in let there = K.token_is.there in
+    let sits : n < c.args.self.now.setting.seats
+    = (let k = ap (λ (l : ListModel). l.setting.seats) (at ∙ c.self.view_is) in omega (arith, there, k)) in
+    let A = c.asleep_word-asleep.ensures in let M = c.misses_word-misses.ensures in let misses_at = M.at in
+    let futex = grant_futex x n c.self.view_is sits (omega (arith, grant, from)) (A.at ∙ ap (asleep_address c.args.self.now.setting) from) A.low in
+    let misses = beside x c.self.view_is (omega (arith, misses_at, from, sits)) (omega (arith, misses_at, from, sits)) in
     let low = grant_low x c.self.invariant n (let k = K.token_is.there in omega (arith, seats, k)) in (
       omega arith,
       (
         owned x c.self.invariant s at,
         (
-          (omega (arith, grant, low), asleep.0, misses.0),
+          (
+            omega (arith, grant, low),
+            futex.0,
+            (let w = ap (λ (l : ListModel). l.id.words) c.self.view_is in let k = M.low in omega (arith, w, k)),
+          ),
           (
             (low_word x c.self.invariant 0 (omega arith), low_word x c.self.invariant 1 (omega arith)),
             (
               (omega arith, omega arith),
               (
-                (asleep.1, misses.1),
-                takes_at _ s.me _ _ (stands_parked s n K) K.ticket refl (let j = K.token_is.number_is in omega (arith, grant, j)),
+                futex.1,
+                (misses, takes_at _ s.me _ _ (stands_parked s n K) K.ticket refl (let j = K.token_is.number_is in omega (arith, grant, j))),
               ),
             ),
           ),

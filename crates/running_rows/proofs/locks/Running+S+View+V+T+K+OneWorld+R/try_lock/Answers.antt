@@ -3,7 +3,7 @@ use mathlib.Core.Option.{none}
 use prog.Atomic.{either}
 use Rattle.atomic_table.specs.Table.{step}
 use Rattle.running_rows.specs.Strides.{runs_lock, runs_lock_or_look, Took}
-use Rattle.running_rows.proofs.Keeping.{allowed_since, owes_lock_or_look}
+use Rattle.running_rows.proofs.Holding.{lock_leaves, allowed_since, owes_lock_or_look}
 use Rattle.running_rows.proofs.locks.Running+S+View+V+T+K+OneWorld+R.try_lock.Goals as goal
 
 pub compare_exchange-found-requires : goal.compare_exchange-found-requires
@@ -12,7 +12,7 @@ compare_exchange-found-requires g c = let same = c.loop.invariant in (
   c.requires.word,
   allowed_since g.R.Rows.family _ _ _ _ c.args.token.now.me _ (λ n. either (n == 0) 1 n)
       (runs_lock g.R.Rows.family g.A.Start.at (step c.args.self.now.table.shared.table_id.slots c.args.word 0 1 none))
-      c.requires.own.1 c.requires.owes same.1,
+      c.requires.own.1 (lock_leaves g.R.Rows.family _ _ c.requires.lock) c.requires.owes same.1,
 )
 
 pub loop-init : goal.loop-init
@@ -40,6 +40,6 @@ compare_exchange-found-requires-2 g c = let same = c.loop.invariant in (
   c.requires.word,
   allowed_since g.R.Rows.family _ _ _ _ c.args.token.now.me _ (λ n. either (n == 0) 1 n)
       (runs_lock_or_look g.R.Rows.family g.A.Start.at (step c.args.self.now.table.shared.table_id.slots c.args.word 0 1 none))
-      c.requires.own.1
+      c.requires.own.1 (lock_leaves g.R.Rows.family _ _ c.requires.lock)
       (owes_lock_or_look g.R.Rows.family _ g.A.Start.at (step c.args.self.now.table.shared.table_id.slots c.args.word 0 1 none) c.args.token.now.me c.requires.seen c.requires.owes) same.1,
 )

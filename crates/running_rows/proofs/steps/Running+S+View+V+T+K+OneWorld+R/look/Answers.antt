@@ -1,4 +1,4 @@
-use Rattle.running_rows.proofs.Keeping.{allowed_look}
+use Rattle.running_rows.proofs.Holding.{allowed_look}
 use Rattle.running_rows.proofs.steps.Running+S+View+V+T+K+OneWorld+R.look.Goals as goal
 
 pub load-requires : goal.load-requires

@@ -1,7 +1,7 @@
 use mathlib.Core.Option.{none}
 use Rattle.atomic_table.specs.Table.{step}
 use Rattle.running_rows.specs.Strides.{runs_store}
-use Rattle.running_rows.proofs.Keeping.{allowed}
+use Rattle.running_rows.proofs.Holding.{allowed, plain_leaves}
 use Rattle.running_rows.proofs.steps.Running+S+View+V+T+K+OneWorld+R.store.Goals as goal
 
 pub store-requires : goal.store-requires
@@ -10,5 +10,6 @@ store-requires g c = (
   c.requires.word,
   allowed g.R.Rows.family _ _ _ _ _ (λ _. c.args.new)
       (λ _. runs_store g.R.Rows.family g.A.Start.at (step c.args.self.now.table.shared.table_id.slots c.args.word c.args.new 0 none)
-      c.args.token.now.me c.args.new) c.requires.own.1 c.requires.owes,
+      c.args.token.now.me c.args.new) c.requires.own.1
+      (plain_leaves g.R.Rows.family _ _ (λ _. c.args.new) c.requires.plain) c.requires.owes,
 )

@@ -1,14 +1,12 @@
 use mathlib.Core.Option.{none}
 use Rattle.atomic_table.specs.Table.{step}
-use Rattle.running_rows.specs.Strides.{runs_take_or_look}
-use Rattle.running_rows.proofs.Keeping.{allowed}
+use Rattle.running_rows.proofs.Holding.{allowed_take_or_look}
 use Rattle.running_rows.proofs.steps.Running+S+View+V+T+K+OneWorld+R.take_grant.Goals as goal
 
 pub swap-requires : goal.swap-requires
 swap-requires g c = (
   c.requires.own.0,
   c.requires.word,
-  allowed g.R.Rows.family _ _ _ _ _ (λ _. 0)
-      (runs_take_or_look g.R.Rows.family (step c.args.self.now.table.shared.table_id.slots c.args.word 0 0 none) c.args.token.now.me)
-      c.requires.own.1 c.requires.owes,
+  allowed_take_or_look g.R.Rows.family _ _ _ _ c.args.token.now.me (step c.args.self.now.table.shared.table_id.slots c.args.word 0 0 none)
+      c.requires.own.1 c.requires.grant c.requires.owes,
 )

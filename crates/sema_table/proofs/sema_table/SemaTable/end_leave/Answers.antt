@@ -1,7 +1,6 @@
 use Rattle.std.proofs.Common.{◌≡◌, ◌+◌, ◌-◌, Bool, true, false, sym, ap, subst, ◌∙◌}
-use Rattle.step_table.specs.declared.place.AcquireRow.{AcquireRow}
 use Rattle.step_table.specs.declared.place.AcquireRow.TheVariants.{Parked}
-use Rattle.step_table.specs.declared.place.ParkedRow.TheVariants.{D3, D5}
+use Rattle.step_table.specs.declared.place.ParkedRow.TheVariants.{D3}
 use Rattle.step_table.specs.declared.place.Place.{Place}
 use Rattle.step_table.specs.declared.place.Place.TheVariants.{Acquiring}
 use Rattle.sema_table.specs.declared.seat.Numbers.{Numbers}

@@ -7,14 +7,14 @@ use Rattle.sema_table.proofs.Entering.{stands_after, to_look, to_taken, to_commi
 use Rattle.sema_table.proofs.sema_table.SemaTable.enter_locked.Goals as goal
 
 pub raise-requires : goal.raise-requires
-raise-requires c = (
+raise-requires g c = (
   stands_after c.args.self.now c.requires.0 c.args.token c.args.numbers (Acquiring c.args.call.now A3) (Acquiring c.args.call.now A4) [] 0 c.requires.1.token_is
       c.requires.1.table_is c.requires.1.inside c.requires.1.locked.0 refl,
   c.requires.1.locked.1,
 )
 
 pub look_again-requires : goal.look_again-requires
-look_again-requires c = (
+look_again-requires g c = (
   stands_after c.args.self.now c.requires.0 c.raise.new.token c.args.numbers (Acquiring c.args.call.now A3) (Acquiring c.args.call.now A5)
       [] 0 c.requires.1.token_is c.requires.1.table_is c.requires.1.inside
       (to_look c.requires.0 c.args.token c.raise.new.token c.raise.new.token c.args.call.now c.requires.1.locked.0 c.raise.ensures.0) refl,
@@ -22,7 +22,7 @@ look_again-requires c = (
 )
 
 pub lower-requires : goal.lower-requires
-lower-requires c =
+lower-requires g c =
     let s = c.requires.0 in let t2 = c.raise.new.token in let t3 = c.look_again.new.token in let a = c.args.call.now in
     let looked = to_look s c.args.token t2 t3 a c.requires.1.locked.0 c.raise.ensures.0 in (
       stands_after c.args.self.now s t3 c.args.numbers (Acquiring a A3) (Acquiring a A8) (Take a.counter t2.me.0.own.number ∷ [])
@@ -32,7 +32,7 @@ lower-requires c =
     )
 
 pub unlock_taken-requires : goal.unlock_taken-requires
-unlock_taken-requires c =
+unlock_taken-requires g c =
     let s = c.requires.0 in let t2 = c.raise.new.token in let t3 = c.look_again.new.token in let t4 = c.lower.new.token in let a = c.args.call.now in
     let looked = to_look s c.args.token t2 t3 a c.requires.1.locked.0 c.raise.ensures.0 in
     let taken = to_taken s c.args.token t2 t3 a looked c.if-look_again.ensures.settled in (
@@ -43,7 +43,7 @@ unlock_taken-requires c =
     )
 
 pub invariant_of-result : goal.invariant_of-result
-invariant_of-result c =
+invariant_of-result g c =
     let s = c.requires.0 in let t2 = c.raise.new.token in let t3 = c.look_again.new.token in let t4 = c.lower.new.token in
     let t5 = c.unlock_taken.new.token in let a = c.args.call.now in
     let looked = to_look s c.args.token t2 t3 a c.requires.1.locked.0 c.raise.ensures.0 in
@@ -52,7 +52,7 @@ invariant_of-result c =
     entered_seat s t2 t3 t4 t5 c.args.numbers a c.requires.1.token_is looked taken lowered c.unlock_taken.ensures.0 c.unlock_taken.ensures.1
 
 pub returns-then-look_again : goal.returns-then-look_again
-returns-then-look_again c s0 h =
+returns-then-look_again g c s0 h =
     let s = s0 in let t2 = c.raise.new.token in let t3 = c.look_again.new.token in let t4 = c.lower.new.token in
     let t5 = c.unlock_taken.new.token in let a = c.args.call.now in
     let looked = to_look s c.args.token t2 t3 a h.locked.0 c.raise.ensures.0 in
@@ -61,7 +61,7 @@ returns-then-look_again c s0 h =
     entered_taken s t2 t3 t4 t5 c.args.numbers a h.token_is looked taken lowered c.unlock_taken.ensures.0 c.unlock_taken.ensures.1
 
 pub queue-requires-clause-seat : goal.queue-requires-clause-seat
-queue-requires-clause-seat c =
+queue-requires-clause-seat g c =
     let s = c.requires.0 in let t2 = c.raise.new.token in let t3 = c.look_again.new.token in let a = c.args.call.now in
     let looked = to_look s c.args.token t2 t3 a c.requires.1.locked.0 c.raise.ensures.0 in (
       stands_after c.args.self.now s t3 c.args.numbers (Acquiring a A3) (Acquiring a A7) [] 0 c.requires.1.token_is c.requires.1.table_is c.requires.1.inside
@@ -71,7 +71,7 @@ queue-requires-clause-seat c =
     )
 
 pub invariant_of-result-2 : goal.invariant_of-result-2
-invariant_of-result-2 c =
+invariant_of-result-2 g c =
     let s = c.requires.0 in let t2 = c.raise.new.token in let t3 = c.look_again.new.token in let t4 = c.queue.new.token in let a = c.args.call.now in
     let looked = to_look s c.args.token t2 t3 a c.requires.1.locked.0 c.raise.ensures.0 in
     let committed = to_committed s c.args.token t2 t3 a looked c.if-look_again.ensures.settled.0 in
@@ -80,7 +80,7 @@ invariant_of-result-2 c =
     (subst (λ (y : TableModel). a.counter < length y.setting.starts) (sym c.requires.1.table_is) c.requires.1.inside)
 
 pub returns : goal.returns
-returns c s0 h =
+returns g c s0 h =
     let s = s0 in let t2 = c.raise.new.token in let t3 = c.look_again.new.token in let t4 = c.queue.new.token in let a = c.args.call.now in
     let looked = to_look s c.args.token t2 t3 a h.locked.0 c.raise.ensures.0 in
     let committed = to_committed s c.args.token t2 t3 a looked c.if-look_again.ensures.settled.0 in

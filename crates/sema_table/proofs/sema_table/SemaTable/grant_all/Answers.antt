@@ -7,10 +7,10 @@ use Rattle.sema_table.proofs.WakeningMany.{seat_at, left_is, stands_granting, gr
 use Rattle.sema_table.proofs.sema_table.SemaTable.grant_all.Goals as goal
 
 pub loop-seat-init : goal.loop-seat-init
-loop-seat-init c = granted_none c.args.self.now c.args.token.now c.args.call.now c.requires.seat
+loop-seat-init g c = granted_none c.args.self.now c.args.token.now c.args.call.now c.requires.seat
 
 pub grant_one-requires-clause-seat : goal.grant_one-requires-clause-seat
-grant_one-requires-clause-seat c =
+grant_one-requires-clause-seat g c =
     let s = c.args.token.now in let t = c.loop-seat.token in let a = c.args.call.now in let n : ℕ = c.loop-seat.seat-index in let x = c.loop-seat.invariant in
     let all : length c.args.seats.now ≡ length s.me.0.own.knows.hand = ap length c.requires.seats
     ∙ length-map s.me.0.own.knows.hand (λ (w : WaitId). w.seat) in
@@ -20,7 +20,7 @@ grant_one-requires-clause-seat c =
     )
 
 pub grant_one-requires-clause-there : goal.grant_one-requires-clause-there
-grant_one-requires-clause-there c =
+grant_one-requires-clause-there g c =
     let s = c.args.token.now in let n : ℕ = c.loop-seat.seat-index in
     let all : length c.args.seats.now ≡ length s.me.0.own.knows.hand = ap length c.requires.seats
     ∙ length-map s.me.0.own.knows.hand (λ (w : WaitId). w.seat) in
@@ -29,7 +29,7 @@ grant_one-requires-clause-there c =
     (c.requires.there n (wait 0 0) low)
 
 pub loop-seat-preserved : goal.loop-seat-preserved
-loop-seat-preserved c =
+loop-seat-preserved g c =
     let s = c.args.token.now in let n : ℕ = c.loop-seat.seat-index in
     let all : length c.args.seats.now ≡ length s.me.0.own.knows.hand = ap length c.requires.seats
     ∙ length-map s.me.0.own.knows.hand (λ (w : WaitId). w.seat) in
@@ -37,7 +37,7 @@ loop-seat-preserved c =
     granted_more s c.loop-seat.token c.args.call.now n c.loop-seat.invariant low c.grant_one.new.token c.grant_one.ensures
 
 pub returns : goal.returns
-returns c =
+returns g c =
     let s = c.args.token.now in let n : ℕ = c.loop-seat.seat-index in
     let all : length c.args.seats.now ≡ length s.me.0.own.knows.hand = ap length c.requires.seats
     ∙ length-map s.me.0.own.knows.hand (λ (w : WaitId). w.seat) in

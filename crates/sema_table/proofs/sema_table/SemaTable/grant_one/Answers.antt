@@ -3,30 +3,35 @@ use Rattle.step_table.specs.declared.word.Word.TheVariants.{Grant}
 use Rattle.step_table.specs.Event.{waiter}
 use Rattle.sema_table.specs.Setting.{address}
 use Rattle.sema_table.specs.Seats.{TableModel}
-use Rattle.sema_table.proofs.Owned.{someones}
+use Rattle.sema_table.proofs.Owned.{someones, grant_sleeps}
 use Rattle.sema_table.proofs.Striding.{slots_are}
 use Rattle.sema_table.proofs.GrantingMany.{granted_first, grants_first}
 use Rattle.sema_table.proofs.sema_table.SemaTable.grant_one.Goals as goal
 
-pub store_grant-requires : goal.store_grant-requires
-store_grant-requires c =
+pub grant-requires : goal.grant-requires
+grant-requires g c =
     let s = c.args.token.now in let a = c.args.call.now in let r = c.requires.seat.0 in let at = r.table_is ∙ sym c.self.view_is in
     let first : waiter s.me.0.own.number s.me.0.own.knows.hand ≡ c.args.seat = c.requires.seat.1 in
     let there : waiter s.me.0.own.number s.me.0.own.knows.hand < s.me.0.own.knows.setting.seats = subst
     (λ (y : TableModel). waiter s.me.0.own.number s.me.0.own.knows.hand < y.setting.seats) (sym r.table_is) (let h = c.requires.there in omega arith) in
     let word : address s.me.0.own.knows.setting (Grant (waiter s.me.0.own.number s.me.0.own.knows.hand)) ≡ c.grant_word-word.result
     = (λ i. address (r.table_is i).setting (Grant (first i))) ∙ sym c.grant_word-word.ensures.at in
+    let sleeps = grant_sleeps c.self.inside c.self.invariant c.self.view_is c.args.seat c.requires.there c.grant_word-word.ensures.at
+    c.asleep_word-asleep.ensures.at c.asleep_word-asleep.ensures.low in
     let words = ap (λ (t : TableModel). t.id.words) c.self.view_is in let low = c.grant_word-word.ensures.low in (
       omega arith,
       (
         (ap (λ (t : TableModel). t.id) at, someones c.self.inside c.self.invariant s at),
         (
-          omega arith,
-          grants_first _ c.self.inside.words.table.shared.table_id.slots c.grant_word-word.result s.me a r.place_is r.limited word there,
+          (omega arith, sleeps.0),
+          (
+            sleeps.1,
+            grants_first _ c.self.inside.words.table.shared.table_id.slots c.grant_word-word.result s.me a r.place_is r.limited word there,
+          ),
         ),
       ),
     )
 
 pub returns : goal.returns
-returns c = let T = c.store_grant.ensures.went in
-    granted_first c.args.token.now c.store_grant.new.token c.args.call.now T.0 c.requires.seat.0.place_is T.1 c.store_grant.ensures.own (slots_are T.3)
+returns g c = let T = c.grant.ensures.went in
+    granted_first c.args.token.now c.grant.new.token c.args.call.now T.0 c.requires.seat.0.place_is T.1 c.grant.ensures.own (slots_are T.3)

@@ -4,7 +4,7 @@ use Rattle.sema_table.proofs.Leaving.{stands_sought, can_spend, stands_left, lef
 use Rattle.sema_table.proofs.sema_table.SemaTable.leave_locked.Goals as goal
 
 pub withdraw-requires-clause-seat : goal.withdraw-requires-clause-seat
-withdraw-requires-clause-seat c =
+withdraw-requires-clause-seat g c =
     let s = c.requires.0 in let h = c.requires.1 in let t1 = c.args.token in let n = c.args.numbers in let a = c.args.call.now in (
       stands_sought s t1 t1 t1 n a c.args.turn h.token_is h.locked.0 c.args.self.now h.table_is h.inside,
       h.locked.1,
@@ -12,7 +12,7 @@ withdraw-requires-clause-seat c =
     )
 
 pub unlock_left-requires : goal.unlock_left-requires
-unlock_left-requires c =
+unlock_left-requires g c =
     let s = c.requires.0 in let h = c.requires.1 in let t1 = c.args.token in let t2 = c.withdraw.new.token in let n = c.args.numbers in
     let a = c.args.call.now in let x = c.if-withdraw.ensures.settled in (
       stands_left s t1 t2 t2 n a c.args.turn h.token_is h.locked.0 x.0 x.1 c.requires.3 c.args.self.now h.table_is h.inside,
@@ -20,19 +20,19 @@ unlock_left-requires c =
     )
 
 pub invariant_of-result : goal.invariant_of-result
-invariant_of-result c =
+invariant_of-result g c =
     let h = c.requires.1 in let x = c.if-withdraw.ensures.settled in let y = c.unlock_left.ensures in
     left_seat c.requires.0 c.args.token c.withdraw.new.token c.unlock_left.new.token c.args.numbers c.args.call.now c.args.turn h.token_is h.locked.0
     x.0 x.1 c.requires.3 y.0 y.1
 
 pub returns-then-withdraw : goal.returns-then-withdraw
-returns-then-withdraw c s h parked =
+returns-then-withdraw g c s h parked =
     let x = c.if-withdraw.ensures.settled in let y = c.unlock_left.ensures in
     left_rows s c.args.token c.withdraw.new.token c.unlock_left.new.token c.args.numbers c.args.call.now c.args.turn h.token_is h.locked.0
     x.0 x.1 c.requires.3 y.0 y.1 parked
 
 pub unlock_coming-requires : goal.unlock_coming-requires
-unlock_coming-requires c =
+unlock_coming-requires g c =
     let s = c.requires.0 in let h = c.requires.1 in let t1 = c.args.token in let t2 = c.withdraw.new.token in let n = c.args.numbers in
     let a = c.args.call.now in let x = c.if-withdraw.ensures.settled in (
       stands_missed s t1 t2 t2 n a c.args.turn h.token_is h.locked.0 x.0 x.1 x.2 c.args.self.now h.table_is h.inside,
@@ -40,13 +40,13 @@ unlock_coming-requires c =
     )
 
 pub invariant_of-result-2 : goal.invariant_of-result-2
-invariant_of-result-2 c =
+invariant_of-result-2 g c =
     let h = c.requires.1 in let a = c.args.call.now in let x = c.if-withdraw.ensures.settled in let y = c.unlock_coming.ensures in
     coming_seat c.requires.0 c.args.token c.withdraw.new.token c.unlock_coming.new.token c.args.numbers a c.args.turn h.token_is h.locked.0
     x.0 x.1 x.2 y.0 y.1 (subst (λ (z : TableModel). a.counter < length z.setting.starts) (sym h.table_is) h.inside)
 
 pub returns : goal.returns
-returns c s h parked =
+returns g c s h parked =
     let x = c.if-withdraw.ensures.settled in let y = c.unlock_coming.ensures in
     coming_rows s c.args.token c.withdraw.new.token c.unlock_coming.new.token c.args.numbers c.args.call.now c.args.turn h.token_is h.locked.0
     x.0 x.1 x.2 y.0 y.1 parked

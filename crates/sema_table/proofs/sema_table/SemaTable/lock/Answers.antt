@@ -4,7 +4,7 @@ use Rattle.step_table.specs.Counting.{counter_at}
 use Rattle.sema_table.specs.Setting.{address}
 use Rattle.sema_table.specs.Seats.{TableModel}
 use Rattle.sema_table.specs.Places.{Begins}
-use Rattle.sema_table.proofs.Owned.{word_in, someones, aside_in}
+use Rattle.sema_table.proofs.Owned.{word_in, someones, lock_sleeps}
 use Rattle.sema_table.proofs.Locking.{takes_lock_by, has_locked}
 use Rattle.sema_table.proofs.sema_table.SemaTable.lock.Goals as goal
 
@@ -14,15 +14,16 @@ take_lock_for-requires g c =
     let at = r.table_is ∙ sym c.self.view_is in
     let word : address s.me.0.own.knows.setting (Lock (counter_at p)) ≡ c.lock_word-word.result
     = (λ i. address (r.table_is i).setting (Lock (c.requires.1 i))) ∙ sym c.lock_word-word.ensures.at in
-    let beside = aside_in c.self.inside _ c.self.view_is c.sleepers_word-sleepers.ensures.at c.sleepers_word-sleepers.ensures.low in
+    let sleeps = lock_sleeps c.self.inside c.self.invariant c.self.view_is c.args.counter c.lock_word-word.ensures.at
+    c.sleepers_word-sleepers.ensures.at c.sleepers_word-sleepers.ensures.low in
     let low = word_in c.self.inside s c.self.invariant at (Lock (counter_at p)) tt in (
       omega arith,
       (
         (ap (λ (t : TableModel). t.id) at, someones c.self.inside c.self.invariant s at),
         (
-          (omega arith, beside.0),
+          (omega arith, sleeps.0),
           (
-            beside.1,
+            sleeps.1,
             takes_lock_by _ c.lock_word-word.result s p r.takes
                 (subst (λ (y : TableModel). Begins (length y.setting.starts) s.me.0.own.knows.place p) (sym r.table_is) r.begins) r.limited word,
           ),

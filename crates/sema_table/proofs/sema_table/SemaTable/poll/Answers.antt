@@ -9,7 +9,7 @@ use Rattle.sema_table.specs.Setting.{address}
 use Rattle.sema_table.specs.Seats.{TableModel, SeatModel, Token, table_of, seat_of, IsToken}
 use Rattle.sema_table.specs.Waking.{IsPolled}
 use Rattle.sema_table.proofs.Striding.{slots_are}
-use Rattle.sema_table.proofs.Owned.{own, someones}
+use Rattle.sema_table.proofs.Owned.{own, someones, is_grant}
 use Rattle.sema_table.proofs.Seeing.{owes_received}
 use Rattle.sema_table.proofs.Trying.{grant_look}
 use Rattle.sema_table.proofs.Walking.{spent_few}
@@ -33,9 +33,14 @@ take_grant-found-requires c =
         (ap (λ (t : TableModel). t.id) at, someones c.self.inside c.self.invariant s at),
         (
           (let low = c.grant_word-word.ensures.low in let e = ap (λ (t : TableModel). t.id.words) c.self.view_is in omega arith),
-          owes_received _ c.grant_word-word.result s.me (Acquiring c.sleeping.inside.call (Parked c.sleeping.inside.turn P)) seat.at
-              (spent_few s n 0 seat.token_is (omega arith)) word
-              (λ b k known some. record { fits = record { word = word; there = known.there; can = lt-ltb 0 k some; becomes = refl }; apart = refl }),
+          (
+            is_grant c.self.inside c.self.invariant c.self.view_is c.number.result
+                (subst (λ (y : TableModel). c.number.result < y.setting.seats) (at ∙ c.self.view_is)
+                (let h = seat.token_is.there in let e = c.number.ensures ∙ c.id.ensures in omega (arith, e, h))) c.grant_word-word.ensures.at,
+            owes_received _ c.grant_word-word.result s.me (Acquiring c.sleeping.inside.call (Parked c.sleeping.inside.turn P)) seat.at
+                (spent_few s n 0 seat.token_is (omega arith)) word
+                (λ b k known some. record { fits = record { word = word; there = known.there; can = lt-ltb 0 k some; becomes = refl }; apart = refl }),
+          ),
         ),
       ),
     )

@@ -12,7 +12,7 @@ use Rattle.sema_table.specs.Seats.{TableModel, seat_of, IsOwing}
 use Rattle.sema_table.specs.Walks.{moved_to}
 use Rattle.sema_table.specs.Tries.{releasing, IsPosted}
 use Rattle.sema_table.proofs.Striding.{slots_are}
-use Rattle.sema_table.proofs.Owned.{someones, word_in}
+use Rattle.sema_table.proofs.Owned.{someones, word_in, counter_apart}
 use Rattle.sema_table.proofs.Allowing.{owes, owes_here}
 use Rattle.sema_table.proofs.Apart.{run_of, owes_of}
 use Rattle.sema_table.proofs.Stepping.{counter_up}
@@ -32,18 +32,21 @@ add-requires c =
         (ap (λ (t : TableModel). t.id) at, someones c.self.inside c.self.invariant s at),
         (
           (let w = c.counter_word.ensures.at in let low = word_in c.self.inside s c.self.invariant at (Counter N) inside in omega (arith, w, low)),
-          owes_of (λ k. releasing k R1) c.counter_word.result N c.counter_word.ensures.at _ s.me (λ n. (n + 1) % 2 ^ 64)
-              (owes c.counter_word.result s.me (releasing N R1) (inr (inl (c.requires.seat.0.free, inside)))
-              (spent_few s n 1 c.requires.seat.0.token_is c.requires.some) _ (λ n. (n + 1) % 2 ^ 64)
-              (λ b y known. record {
-                fits = record {
-                  word = sym c.counter_word.ensures.at;
-                  there = inside;
-                  can = refl;
-                  becomes = counter_up known N inside (sym c.counter_word.ensures.at);
-                };
-                apart = refl;
-              })),
+          (
+            counter_apart c.self.inside s c.self.invariant at N inside c.counter_word.ensures.at,
+            owes_of (λ k. releasing k R1) c.counter_word.result N c.counter_word.ensures.at _ s.me (λ n. (n + 1) % 2 ^ 64)
+                (owes c.counter_word.result s.me (releasing N R1) (inr (inl (c.requires.seat.0.free, inside)))
+                (spent_few s n 1 c.requires.seat.0.token_is c.requires.some) _ (λ n. (n + 1) % 2 ^ 64)
+                (λ b y known. record {
+                  fits = record {
+                    word = sym c.counter_word.ensures.at;
+                    there = inside;
+                    can = refl;
+                    becomes = counter_up known N inside (sym c.counter_word.ensures.at);
+                  };
+                  apart = refl;
+                })),
+          ),
         ),
       ),
     )

@@ -15,7 +15,7 @@ use Rattle.sema_table.specs.ManySeats.{IsOwingMany}
 use Rattle.sema_table.specs.Walks.{moved_to}
 use Rattle.sema_table.specs.Many.{IsPostedMany}
 use Rattle.sema_table.proofs.Striding.{slots_are}
-use Rattle.sema_table.proofs.Owned.{someones, own, counter_in, word_in}
+use Rattle.sema_table.proofs.Owned.{someones, own, counter_in, word_in, counter_apart}
 use Rattle.sema_table.proofs.Allowing.{owes, owes_here}
 use Rattle.sema_table.proofs.Apart.{run_of, owes_of}
 use Rattle.sema_table.proofs.Stepping.{counter_up_by}
@@ -39,18 +39,21 @@ add-requires c =
         (ap (λ (t : TableModel). t.id) at, someones c.self.inside c.self.invariant s at),
         (
           (let w = c.counter_word.ensures.at in let low = word_in c.self.inside s c.self.invariant at (Counter N) inside in omega (arith, w, low)),
-          owes_of (λ k. ReleasingMany (record { counter = k; units = A }) M1) c.counter_word.result N c.counter_word.ensures.at _ s.me (λ n. (n + A) % 2 ^ 64)
-              (owes c.counter_word.result s.me (ReleasingMany a M1) (inr (inl (c.seat.invariant.free, (inside, one, many))))
-              (spent_few s n A c.seat.invariant.token_is c.if-seat-added.false) _ (λ n. (n + A) % 2 ^ 64)
-              (λ b y known. record {
-                fits = record {
-                  word = sym c.counter_word.ensures.at;
-                  there = inside;
-                  can = refl;
-                  becomes = counter_up_by known N A inside (sym c.counter_word.ensures.at) many;
-                };
-                apart = refl;
-              })),
+          (
+            counter_apart c.self.inside s c.self.invariant at N inside c.counter_word.ensures.at,
+            owes_of (λ k. ReleasingMany (record { counter = k; units = A }) M1) c.counter_word.result N c.counter_word.ensures.at _ s.me (λ n. (n + A) % 2 ^ 64)
+                (owes c.counter_word.result s.me (ReleasingMany a M1) (inr (inl (c.seat.invariant.free, (inside, one, many))))
+                (spent_few s n A c.seat.invariant.token_is c.if-seat-added.false) _ (λ n. (n + A) % 2 ^ 64)
+                (λ b y known. record {
+                  fits = record {
+                    word = sym c.counter_word.ensures.at;
+                    there = inside;
+                    can = refl;
+                    becomes = counter_up_by known N A inside (sym c.counter_word.ensures.at) many;
+                  };
+                  apart = refl;
+                })),
+          ),
         ),
       ),
     )

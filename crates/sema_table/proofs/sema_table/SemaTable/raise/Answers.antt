@@ -7,7 +7,7 @@ use Rattle.step_table.proofs.Sums.{on_here}
 use Rattle.sema_table.specs.Setting.{root, address}
 use Rattle.sema_table.specs.Seats.{TableModel}
 use Rattle.sema_table.proofs.Striding.{slots_are}
-use Rattle.sema_table.proofs.Owned.{someones, word_in}
+use Rattle.sema_table.proofs.Owned.{someones, word_in, waiters_apart}
 use Rattle.sema_table.proofs.Allowing.{owes_here}
 use Rattle.sema_table.proofs.Stepping.{waiters_up}
 use Rattle.sema_table.proofs.Leading.{led}
@@ -25,9 +25,12 @@ add-requires c =
       (
         (ap (λ (t : TableModel). t.id) at, someones c.self.inside c.self.invariant s at),
         (
-          (omega arith),
-          owes_here _ c.waiter_word-word.result s.me (Acquiring a A4) r.place_is (let b = r.limited in omega arith) (λ n. (n + 1) % 2 ^ 64)
-              (λ b n known. record { fits = record { word = word; there = tt; can = refl; becomes = waiters_up known a.counter word }; apart = refl }),
+          omega arith,
+          (
+            waiters_apart c.self.inside c.self.invariant c.self.view_is a.counter c.waiter_word-word.ensures.at,
+            owes_here _ c.waiter_word-word.result s.me (Acquiring a A4) r.place_is (let b = r.limited in omega arith) (λ n. (n + 1) % 2 ^ 64)
+                (λ b n known. record { fits = record { word = word; there = tt; can = refl; becomes = waiters_up known a.counter word }; apart = refl }),
+          ),
         ),
       ),
     )

@@ -11,7 +11,7 @@ use Rattle.sema_table.proofs.Striding.{Ran}
 use Rattle.sema_table.specs.Seats.{TableModel, Token}
 use Rattle.sema_table.specs.Walks.{Stands, sought}
 use Rattle.sema_table.proofs.Allowing.{owes_here}
-use Rattle.sema_table.proofs.Owned.{word_in, someones}
+use Rattle.sema_table.proofs.Owned.{word_in, someones, waiters_apart}
 use Rattle.sema_table.proofs.Stepping.{waiters_down}
 use Rattle.std.proofs.Common.{List, drop}
 use Rattle.waiters.specs.declared.wait.WaitId.{WaitId}
@@ -60,13 +60,16 @@ subtract-requires c =
         ),
         (
           omega arith,
-          subst (λ (x : Me). Owes semaphore_rows key x c.waiter_word-word.result (λ n. (n + 18446744073709551615) % 2 ^ 64)
-              (λ n u. RanRow semaphore_rows here x n u)) (sym E.1.1)
-              (owes_here key c.waiter_word-word.result m (Releasing a R5) place (let b = r.limited in omega arith) (λ n. (n + 18446744073709551615) % 2 ^ 64)
-              (λ b n known. record {
-                fits = record { word = word; there = tt; can = refl; becomes = waiters_down known k word (lowered_some known a refl) };
-                apart = refl;
-              })),
+          (
+            waiters_apart c.self.inside c.self.invariant c.self.view_is k c.waiter_word-word.ensures.at,
+            subst (λ (x : Me). Owes semaphore_rows key x c.waiter_word-word.result (λ n. (n + 18446744073709551615) % 2 ^ 64)
+                (λ n u. RanRow semaphore_rows here x n u)) (sym E.1.1)
+                (owes_here key c.waiter_word-word.result m (Releasing a R5) place (let b = r.limited in omega arith) (λ n. (n + 18446744073709551615) % 2 ^ 64)
+                (λ b n known. record {
+                  fits = record { word = word; there = tt; can = refl; becomes = waiters_down known k word (lowered_some known a refl) };
+                  apart = refl;
+                })),
+          ),
         ),
       ),
     )

@@ -7,7 +7,7 @@ use Rattle.sema_table.specs.Seats.{TableModel, seat_of}
 use Rattle.sema_table.specs.Tries.{acquiring, IsTried}
 use Rattle.sema_table.specs.Changes.{HasChanged}
 use Rattle.sema_table.proofs.Striding.{slots_are}
-use Rattle.sema_table.proofs.Owned.{someones, word_in}
+use Rattle.sema_table.proofs.Owned.{someones, word_in, counter_apart}
 use Rattle.sema_table.proofs.Allowing.{owes, owes_here}
 use Rattle.sema_table.proofs.Apart.{run_of, owes_of}
 use Rattle.sema_table.proofs.Leading.{exchanged}
@@ -73,13 +73,16 @@ exchange-requires c =
         (
           (let w = c.counter_word-word.ensures.at in let low = word_in c.self.inside t c.self.invariant (walk.table_is ∙ at) (Counter N) inside in
               omega (arith, w, low)),
-          owes_here _ c.counter_word-word.result t.me (acquiring N (A2 (k - 1))) (ap (λ (q : SeatState). q.place) walk.stands_is)
-              (let a = walked_spends s t (acquiring N A1) (moved_to s (acquiring N (A2 (k - 1)))) [] 0 walk in
-              let b = spent_few s n 0 c.requires.seat.0.token_is (omega arith) in omega arith) (λ y. either (y == k) (k - 1) y)
-              (λ b y known. record {
-                fits = record { word = sym c.counter_word-word.ensures.at; there = inside; can = refl; becomes = exchanged k y some };
-                apart = refl;
-              }),
+          (
+            counter_apart c.self.inside t c.self.invariant (walk.table_is ∙ at) N inside c.counter_word-word.ensures.at,
+            owes_here _ c.counter_word-word.result t.me (acquiring N (A2 (k - 1))) (ap (λ (q : SeatState). q.place) walk.stands_is)
+                (let a = walked_spends s t (acquiring N A1) (moved_to s (acquiring N (A2 (k - 1)))) [] 0 walk in
+                let b = spent_few s n 0 c.requires.seat.0.token_is (omega arith) in omega arith) (λ y. either (y == k) (k - 1) y)
+                (λ b y known. record {
+                  fits = record { word = sym c.counter_word-word.ensures.at; there = inside; can = refl; becomes = exchanged k y some };
+                  apart = refl;
+                }),
+          ),
         ),
       ),
     )

@@ -6,7 +6,7 @@ use Rattle.sema_table.specs.Rows.{semaphore_rows}
 use Rattle.sema_table.specs.Setting.{address}
 use Rattle.sema_table.specs.Seats.{TableModel}
 use Rattle.sema_table.specs.Places.{Begins}
-use Rattle.sema_table.proofs.Owned.{word_in, some_root, someones}
+use Rattle.sema_table.proofs.Owned.{word_in, some_root, someones, is_lock}
 use Rattle.sema_table.proofs.Seeing.{lock_seen}
 use Rattle.sema_table.proofs.Locking.{takes_lock_by}
 use Rattle.sema_table.proofs.Trial.{has_tried}
@@ -27,8 +27,11 @@ try_lock_for-requires c =
           (
             subst (λ (y : TableModel). IsSeen semaphore_rows y.setting c.lock_word-word.result) at
                 (lock_seen z c.lock_word-word.result (counter_at p) (some_root c.self.inside s c.self.invariant at) word),
-            takes_lock_by _ c.lock_word-word.result s p r.takes
-                (subst (λ (y : TableModel). Begins (length y.setting.starts) s.me.0.own.knows.place p) (sym r.table_is) r.begins) r.limited word,
+            (
+              is_lock c.self.inside c.self.invariant c.self.view_is c.args.counter c.lock_word-word.ensures.at,
+              takes_lock_by _ c.lock_word-word.result s p r.takes
+                  (subst (λ (y : TableModel). Begins (length y.setting.starts) s.me.0.own.knows.place p) (sym r.table_is) r.begins) r.limited word,
+            ),
           ),
         ),
       ),

@@ -7,7 +7,7 @@ use Rattle.step_table.specs.World.{SeatState}
 use Rattle.sema_table.specs.Seats.{TableModel}
 use Rattle.sema_table.specs.Walks.{moved_to}
 use Rattle.sema_table.proofs.Striding.{slots_are}
-use Rattle.sema_table.proofs.Owned.{someones, word_in}
+use Rattle.sema_table.proofs.Owned.{someones, word_in, counter_apart}
 use Rattle.sema_table.proofs.Allowing.{owes_here}
 use Rattle.sema_table.proofs.Leading.{exchanged}
 use Rattle.sema_table.proofs.Walking.{walked_spends, walked_yet}
@@ -57,18 +57,21 @@ exchange-requires c =
         (ap (λ (y : TableModel). y.id) t, someones c.self.inside c.self.invariant u t),
         (
           omega (arith, w, low),
-          owes_here _ c.counter_word-word.result u.me (Acquiring a (A11 (n - 1))) (ap (λ (y : SeatState). y.place) x.stands_is)
-              (let b = r.limited in let d = walked_spends s u (Acquiring a A10) (moved_to s (Acquiring a (A11 (n - 1)))) [] 0 x in omega arith)
-              (λ y. either (y == n) (n - 1) y)
-              (λ b y known. record {
-                fits = record {
-                  word = omega (arith, e, w);
-                  there = subst (λ k. k < length u.me.0.own.knows.setting.starts) e inside;
-                  can = refl;
-                  becomes = exchanged n y some;
-                };
-                apart = refl;
-              }),
+          (
+            counter_apart c.self.inside u c.self.invariant t N inside c.counter_word-word.ensures.at,
+            owes_here _ c.counter_word-word.result u.me (Acquiring a (A11 (n - 1))) (ap (λ (y : SeatState). y.place) x.stands_is)
+                (let b = r.limited in let d = walked_spends s u (Acquiring a A10) (moved_to s (Acquiring a (A11 (n - 1)))) [] 0 x in omega arith)
+                (λ y. either (y == n) (n - 1) y)
+                (λ b y known. record {
+                  fits = record {
+                    word = omega (arith, e, w);
+                    there = subst (λ k. k < length u.me.0.own.knows.setting.starts) e inside;
+                    can = refl;
+                    becomes = exchanged n y some;
+                  };
+                  apart = refl;
+                }),
+          ),
         ),
       ),
     )

@@ -10,50 +10,55 @@ use Rattle.sema_table.specs.Seats.{TableModel}
 use Rattle.sema_table.specs.ManyWalks.{to_grant}
 use Rattle.sema_table.proofs.Striding.{slots_are}
 use Rattle.sema_table.proofs.GrantingMany.{hands_there}
-use Rattle.sema_table.proofs.Owned.{someones, word_in}
+use Rattle.sema_table.proofs.Owned.{someones, word_in, lock_sleeps}
 use Rattle.sema_table.proofs.Allowing.{owes_give}
 use Rattle.sema_table.proofs.Leading.{led}
 use Rattle.sema_table.proofs.Walking.{walked_row, ran_from}
 use Rattle.running_rows.specs.Table.{rest}
 use Rattle.sema_table.proofs.sema_table.SemaTable.unlock_many.Goals as goal
 
-pub return_lock-requires : goal.return_lock-requires
-return_lock-requires c =
+pub give_lock-requires : goal.give_lock-requires
+give_lock-requires g c =
     let s = c.args.token.now in let a = c.args.call.now in let r = c.requires.0 in let h = c.requires.1 in let at = r.table_is ∙ sym c.self.view_is in
     let word : address s.me.0.own.knows.setting (Lock a.counter) ≡ c.lock_word-word.result = ap (λ (y : TableModel). address y.setting (Lock a.counter))
     r.table_is ∙ sym c.lock_word-word.ensures.at in
+    let sleeps = lock_sleeps c.self.inside c.self.invariant c.self.view_is a.counter c.lock_word-word.ensures.at
+    c.sleepers_word-sleepers.ensures.at c.sleepers_word-sleepers.ensures.low in
     let low = word_in c.self.inside s c.self.invariant at (Lock a.counter) tt in (
       omega arith,
       (
         (ap (λ (t : TableModel). t.id) at, someones c.self.inside c.self.invariant s at),
         (
-          omega arith,
-          owes_give _ c.lock_word-word.result s.me (ReleasingMany a M6) r.place_is (let b = r.limited in omega arith) h.0 0 h.1
-              (λ b n known. record {
-                fits = record { word = word; there = tt; can = refl; becomes = refl };
-                word_is = refl;
-                holds_it =
-                    on_here (root s.me.0.own.knows.setting a.counter) 1;
-                is_record = h.2;
-              }),
+          (omega arith, sleeps.0),
+          (
+            sleeps.1,
+            owes_give _ c.lock_word-word.result s.me (ReleasingMany a M6) r.place_is (let b = r.limited in omega arith) h.0 0 h.1
+                (λ b n known. record {
+                  fits = record { word = word; there = tt; can = refl; becomes = refl };
+                  word_is = refl;
+                  holds_it =
+                      on_here (root s.me.0.own.knows.setting a.counter) 1;
+                  is_record = h.2;
+                }),
+          ),
         ),
       ),
     )
 
 pub returns-clause-walked : goal.returns-clause-walked
-returns-clause-walked c =
-    let s = c.args.token.now in let u = c.return_lock.new.token in let a = c.args.call.now in let r = c.requires.0 in
-    let X = c.return_lock.ensures.went in let n : ℕ = X.0 in
+returns-clause-walked g c =
+    let s = c.args.token.now in let u = c.give_lock.new.token in let a = c.args.call.now in let r = c.requires.0 in
+    let X = c.give_lock.ensures.went in let n : ℕ = X.0 in
     let row = ran_from s u (ReleasingMany a M6) n r.place_is X.1 in
     let g = led s.me.0.own u.me.0.own (ReleasingMany a M6) n row in
-    walked_row s u (ReleasingMany a M6) n (to_grant a s.me.0.own.knows.hand, Nothing) row g c.return_lock.ensures.own
+    walked_row s u (ReleasingMany a M6) n (to_grant a s.me.0.own.knows.hand, Nothing) row g c.give_lock.ensures.own
 
 pub returns-clause-bare : goal.returns-clause-bare
-returns-clause-bare c = slots_are c.return_lock.ensures.went.3 ∙ ap rest c.requires.1.1
+returns-clause-bare g c = slots_are c.give_lock.ensures.went.3 ∙ ap rest c.requires.1.1
 
 pub returns-clause-there : goal.returns-clause-there
-returns-clause-there c =
-    let s = c.args.token.now in let u = c.return_lock.new.token in let a = c.args.call.now in let r = c.requires.0 in
-    let X = c.return_lock.ensures.went in let n : ℕ = X.0 in
+returns-clause-there g c =
+    let s = c.args.token.now in let u = c.give_lock.new.token in let a = c.args.call.now in let r = c.requires.0 in
+    let X = c.give_lock.ensures.went in let n : ℕ = X.0 in
     subst (λ (y : TableModel). All (λ w. w.seat < y.setting.seats) u.me.0.own.knows.hand) r.table_is
     (hands_there s u (ReleasingMany a M6) n (ran_from s u (ReleasingMany a M6) n r.place_is X.1))

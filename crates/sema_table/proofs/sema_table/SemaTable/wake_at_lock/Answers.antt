@@ -1,11 +1,11 @@
 use Rattle.sema_table.proofs.sema_table.SemaTable.wake_at_lock.Goals as goal
 
-pub wake_locked-seat-requires : goal.wake_locked-seat-requires
-wake_locked-seat-requires g c = (
+pub wake_locked-requires : goal.wake_locked-requires
+wake_locked-requires g c = (
   c.args.token,
   record { token_is = c.requires.seat.0; table_is = c.requires.seat.1; inside = c.requires.call.0; locked = c.lock.ensures },
 )
 
 pub returns : goal.returns
-returns g c = c.wake_locked-seat.ensures.wakes c.args.token
+returns g c = c.wake_locked.ensures c.args.token
     (record { token_is = c.requires.seat.0; table_is = c.requires.seat.1; inside = c.requires.call.0; locked = c.lock.ensures })

@@ -5,14 +5,14 @@ use Rattle.step_table.specs.declared.place.Release.{Release}
 use Rattle.step_table.specs.declared.place.ReleaseRow.TheVariants.{R3, R4}
 use Rattle.step_table.specs.declared.place.Place.TheVariants.{Releasing}
 use Rattle.step_table.specs.World.{SeatState}
-use Rattle.sema_table.specs.Walks.{trying, granting, grant_of, taken_for}
+use Rattle.sema_table.specs.Walks.{trying, granting, taken_for}
 use Rattle.sema_table.proofs.Entering.{stands_at, stands_after}
 use Rattle.sema_table.proofs.Wakening.{nobody_seat, wakes_nobody, carried, carrying, none_spent, trying_counter, granting_counter, settled, granted_seat}
-use Rattle.sema_table.proofs.Wakening.{same_seat, at_rest, last_granted, grants_last, wakes_one, wakes_handed}
+use Rattle.sema_table.proofs.Wakening.{same_seat, at_rest, last_granted, wakes_one, wakes_handed}
 use Rattle.sema_table.proofs.sema_table.SemaTable.wake_locked.Goals as goal
 
 pub take_first-first-requires : goal.take_first-first-requires
-take_first-first-requires c =
+take_first-first-requires g c =
     let s = c.requires.0 in let a : Release = c.args.call.now in record {
       seat = (
         stands_after c.args.self.now s c.args.token c.args.numbers (Releasing a R3) (Releasing a R4) [] 0 c.requires.1.token_is c.requires.1.table_is
@@ -23,19 +23,19 @@ take_first-first-requires c =
     }
 
 pub invariant_of-result : goal.invariant_of-result
-invariant_of-result c =
+invariant_of-result g c =
     let a : Release = c.args.call.now in
     nobody_seat c.requires.0 c.args.token c.take_first-first.new.token c.unlock_released.new.token c.args.numbers a c.requires.1.token_is c.requires.1.locked.0
     c.in_default.ensures.none c.unlock_released.ensures.0 c.unlock_released.ensures.1
 
-pub returns-in_default-clause-wakes : goal.returns-in_default-clause-wakes
-returns-in_default-clause-wakes c s0 h =
+pub returns-in_default : goal.returns-in_default
+returns-in_default g c s0 h =
     let a : Release = c.args.call.now in
     wakes_nobody s0 c.args.token c.take_first-first.new.token c.unlock_released.new.token c.args.numbers a h.token_is h.locked.0
     c.in_default.ensures.none c.unlock_released.ensures.0 c.unlock_released.ensures.1
 
 pub take_for-handed-requires : goal.take_for-handed-requires
-take_for-handed-requires c =
+take_for-handed-requires g c =
     let s = c.requires.0 in let t1 = c.args.token in let t3 = c.unlock_released.new.token in let n = c.args.numbers in let w : WaitId = c.in-Some.id in
     let a : Release = c.args.call.now in
     let x = carried s t1 c.take_first-first.new.token t3 n a w c.requires.1.token_is c.requires.1.locked.0 c.in-Some.ensures.some.0 c.unlock_released.ensures.0 in (
@@ -46,7 +46,7 @@ take_for-handed-requires c =
     )
 
 pub grant-requires-clause-seat : goal.grant-requires-clause-seat
-grant-requires-clause-seat c =
+grant-requires-clause-seat g c =
     let s = c.requires.0 in let t1 = c.args.token in let t3 = c.unlock_released.new.token in let n = c.args.numbers in let w : WaitId = c.in-Some.id in
     let a : Release = c.args.call.now in
     let x = carried s t1 c.take_first-first.new.token t3 n a w c.requires.1.token_is c.requires.1.locked.0 c.in-Some.ensures.some.0 c.unlock_released.ensures.0 in
@@ -61,7 +61,7 @@ grant-requires-clause-seat c =
     )
 
 pub invariant_of-result-then-handed : goal.invariant_of-result-then-handed
-invariant_of-result-then-handed c =
+invariant_of-result-then-handed g c =
     let s = c.requires.0 in let t1 = c.args.token in let t3 = c.unlock_released.new.token in let n = c.args.numbers in let w : WaitId = c.in-Some.id in
     let a : Release = c.args.call.now in
     let x = carried s t1 c.take_first-first.new.token t3 n a w c.requires.1.token_is c.requires.1.locked.0 c.in-Some.ensures.some.0 c.unlock_released.ensures.0 in
@@ -71,8 +71,8 @@ invariant_of-result-then-handed c =
     let t5 = c.grant.new.token in let bare = c.grant.ensures.slots ∙ c.take_for-handed.ensures.slots ∙ c.unlock_released.ensures.1 in
     granted_seat s t1 t3 t4 t5 n a w b c.requires.1.token_is own x c.take_for-handed.ensures.walked c.grant.ensures.granted bare
 
-pub returns-then-handed-clause-wakes : goal.returns-then-handed-clause-wakes
-returns-then-handed-clause-wakes c s0 h =
+pub returns-then-handed : goal.returns-then-handed
+returns-then-handed g c s0 h =
     let s = s0 in let t1 = c.args.token in let t3 = c.unlock_released.new.token in let n = c.args.numbers in let w : WaitId = c.in-Some.id in
     let a : Release = c.args.call.now in
     let x = carried s t1 c.take_first-first.new.token t3 n a w h.token_is h.locked.0 c.in-Some.ensures.some.0 c.unlock_released.ensures.0 in
@@ -87,7 +87,7 @@ returns-then-handed-clause-wakes c s0 h =
     )
 
 pub invariant_of-result-2 : goal.invariant_of-result-2
-invariant_of-result-2 c =
+invariant_of-result-2 g c =
     let s = c.requires.0 in let t1 = c.args.token in let t3 = c.unlock_released.new.token in let n = c.args.numbers in let w : WaitId = c.in-Some.id in
     let a : Release = c.args.call.now in
     let x = carried s t1 c.take_first-first.new.token t3 n a w c.requires.1.token_is c.requires.1.locked.0 c.in-Some.ensures.some.0 c.unlock_released.ensures.0 in
@@ -97,8 +97,8 @@ invariant_of-result-2 c =
     let t5 = c.grant.new.token in let bare = c.grant.ensures.slots ∙ c.take_for-handed.ensures.slots ∙ c.unlock_released.ensures.1 in
     granted_seat s t1 t3 t4 t5 n a w b c.requires.1.token_is own x c.take_for-handed.ensures.walked c.grant.ensures.granted bare
 
-pub returns-clause-wakes : goal.returns-clause-wakes
-returns-clause-wakes c s0 h =
+pub returns : goal.returns
+returns g c s0 h =
     let s = s0 in let t1 = c.args.token in let t3 = c.unlock_released.new.token in let n = c.args.numbers in let w : WaitId = c.in-Some.id in
     let a : Release = c.args.call.now in
     let x = carried s t1 c.take_first-first.new.token t3 n a w h.token_is h.locked.0 c.in-Some.ensures.some.0 c.unlock_released.ensures.0 in
@@ -111,11 +111,3 @@ returns-clause-wakes c s0 h =
       wakes_one s t5 n a w b (last_granted s t1 t3 t4 t5 n a w b h.token_is own x c.take_for-handed.ensures.walked c.grant.ensures.granted bare)
           c.if-handed.false,
     )
-
-pub returns-then-handed-clause-stored : goal.returns-then-handed-clause-stored
-returns-then-handed-clause-stored c = grants_last c.args.self.now c.grant.new.token c.args.numbers c.in-Some.id.seat (grant_of c.take_for-handed.result) 2
-    c.in-Some.ensures.some.1 (ap grant_of c.if-handed.true) c.grant.ensures.stored
-
-pub returns-clause-stored : goal.returns-clause-stored
-returns-clause-stored c = grants_last c.args.self.now c.grant.new.token c.args.numbers c.in-Some.id.seat (grant_of c.take_for-handed.result) 1
-    c.in-Some.ensures.some.1 (ap grant_of c.if-handed.false) c.grant.ensures.stored

@@ -1,6 +1,6 @@
 use Rattle.std.proofs.Common.{sym, subst}
 use Rattle.sema_table.specs.Seats.{seat_of}
-use Rattle.sema_table.specs.Many.{WakesMany, IsWokenSeats}
+use Rattle.sema_table.specs.Many.{WakesMany}
 use Rattle.sema_table.proofs.sema_table.SemaTable.wake_some_at_lock.Goals as goal
 
 pub wake_some_locked-seat-requires-clause-seat : goal.wake_some_locked-seat-requires-clause-seat
@@ -9,16 +9,9 @@ wake_some_locked-seat-requires-clause-seat g c = (
   record { token_is = c.requires.seat.0; table_is = c.requires.seat.1; inside = c.requires.call.0; locked = c.lock.ensures },
 )
 
-pub rouse_each-requires-clause-stored : goal.rouse_each-requires-clause-stored
-rouse_each-requires-clause-stored g c =
-    let o = c.wake_some_locked-seat.ensures.wakes c.args.token
-    (record { token_is = c.requires.seat.0; table_is = c.requires.seat.1; inside = c.requires.call.0; locked = c.lock.ensures }) in
-    let s = seat_of c.args.token c.args.numbers in
-    (s, subst (IsWokenSeats s c.wake_some_locked-seat.result) (sym c.as_slice.ensures.value) (c.args.call.now, c.requires.call.1, o.0, o.1, o.2))
-
 pub returns : goal.returns
 returns g c =
-    let o = c.wake_some_locked-seat.ensures.wakes c.args.token
+    let o = c.wake_some_locked-seat.ensures c.args.token
     (record { token_is = c.requires.seat.0; table_is = c.requires.seat.1; inside = c.requires.call.0; locked = c.lock.ensures }) in (
       o.0,
       o.1,

@@ -1,7 +1,5 @@
-use Rattle.std.proofs.Common.{◌≡◌, ◌<◌, ℕ, List, [], length, map, sym, refl, ap, ◌∙◌, subst}
-use Rattle.std.specs.List.{All}
+use Rattle.std.proofs.Common.{◌≡◌, ℕ, List, [], length, map, sym, refl, ap, ◌∙◌}
 use Rattle.std.proofs.lemmas.List.{length-map}
-use Rattle.std.proofs.lemmas.List.Elements.{All-map}
 use Rattle.waiters.specs.declared.wait.WaitId.{WaitId}
 use Rattle.step_table.specs.declared.place.ReleaseMany.{ReleaseMany}
 use Rattle.step_table.specs.declared.place.ManyRow.TheVariants.{M3, M4, M6}
@@ -16,7 +14,7 @@ use Rattle.sema_table.proofs.PickingMany.{leaves_spend}
 use Rattle.sema_table.proofs.sema_table.SemaTable.wake_some_locked.Goals as goal
 
 pub take_waits-requires-clause-seat : goal.take_waits-requires-clause-seat
-take_waits-requires-clause-seat c = let a : ReleaseMany = c.args.call.now in (
+take_waits-requires-clause-seat g c = let a : ReleaseMany = c.args.call.now in (
   (
     stands_after c.args.self.now c.requires.seat.0 c.args.token c.args.numbers (ReleasingMany a M3) (ReleasingMany a M4) [] 0 c.requires.seat.1.token_is c.requires.seat.1.table_is
         c.requires.seat.1.inside c.requires.seat.1.locked.0 refl,
@@ -26,7 +24,7 @@ take_waits-requires-clause-seat c = let a : ReleaseMany = c.args.call.now in (
 )
 
 pub unlock_many-requires : goal.unlock_many-requires
-unlock_many-requires c =
+unlock_many-requires g c =
     let a : ReleaseMany = c.args.call.now in let t1 = c.args.token in let t2 = c.take_waits.new.token in
     let locked = stands_after c.args.self.now c.requires.seat.0 t1 c.args.numbers (ReleasingMany a M3) (ReleasingMany a M4) [] 0 c.requires.seat.1.token_is c.requires.seat.1.table_is
     c.requires.seat.1.inside c.requires.seat.1.locked.0 refl in (
@@ -37,7 +35,7 @@ unlock_many-requires c =
     )
 
 pub grant_all-requires-clause-seat : goal.grant_all-requires-clause-seat
-grant_all-requires-clause-seat c =
+grant_all-requires-clause-seat g c =
     let a : ReleaseMany = c.args.call.now in let t1 = c.args.token in let t2 = c.take_waits.new.token in
     let locked = stands_after c.args.self.now c.requires.seat.0 t1 c.args.numbers (ReleasingMany a M3) (ReleasingMany a M4) [] 0 c.requires.seat.1.token_is c.requires.seat.1.table_is
     c.requires.seat.1.inside c.requires.seat.1.locked.0 refl in
@@ -47,13 +45,13 @@ grant_all-requires-clause-seat c =
     may_grant c.args.self.now t2 c.unlock_many.new.token a full c.unlock_many.ensures.walked
 
 pub invariant_of-result : goal.invariant_of-result
-invariant_of-result c =
+invariant_of-result g c =
     let s = c.requires.seat.0 in let a : ReleaseMany = c.args.call.now in let t3 = c.unlock_many.new.token in let n = c.args.numbers in let is = c.requires.seat.1.token_is in
     let x = unlocked_many s c.args.token c.take_waits.new.token t3 n a is c.requires.seat.1.locked.0 c.take_waits.ensures.walked c.unlock_many.ensures.walked in
     woken_seat s t3 c.grant_all.new.token n a is x c.grant_all.ensures (c.grant_all.ensures.slots ∙ c.unlock_many.ensures.bare)
 
-pub returns-clause-wakes : goal.returns-clause-wakes
-returns-clause-wakes c s0 h =
+pub returns : goal.returns
+returns g c s0 h =
     let s = s0 in let a : ReleaseMany = c.args.call.now in let t1 = c.args.token in let t2 = c.take_waits.new.token in
     let t3 = c.unlock_many.new.token in let t4 = c.grant_all.new.token in let n = c.args.numbers in
     let is = h.token_is in
@@ -66,11 +64,3 @@ returns-clause-wakes c s0 h =
       at_rest s t3 t4 n a is x c.grant_all.ensures,
       wakes_seats s t3 t4 n a is x c.grant_all.ensures seats count (c.take_waits.ensures.hand ∙ ap (λ (l : List WaitId). map (λ w. w.seat) l) (sym hand)),
     )
-
-pub returns-clause-there : goal.returns-clause-there
-returns-clause-there c =
-    let hand = c.take_waits.new.token.me.0.own.knows.hand in
-    subst (All (λ (k : ℕ). k < c.args.self.now.setting.seats)) (sym c.take_waits.ensures.hand)
-    (All-map (λ k. k < c.args.self.now.setting.seats) (λ (w : WaitId). w.seat) hand
-    (subst (All (λ (w : WaitId). w.seat < c.args.self.now.setting.seats)) (ap (λ (q : SeatState). q.hand) c.unlock_many.ensures.walked.stands_is)
-    c.unlock_many.ensures.there))

@@ -19,7 +19,7 @@ use Rattle.sema_table.specs.Rows.{Me, semaphore_rows}
 use Rattle.sema_table.specs.Seats.{TableModel, Token}
 use Rattle.sema_table.specs.Walks.{Stands, lists_of, sought_own}
 use Rattle.sema_table.proofs.Striding.{Ran, slots_are}
-use Rattle.sema_table.proofs.Owned.{word_in, someones}
+use Rattle.sema_table.proofs.Owned.{word_in, someones, waiters_apart}
 use Rattle.sema_table.proofs.Allowing.{owes_here}
 use Rattle.sema_table.proofs.Stepping.{waiters_down, lowered_own}
 use Rattle.sema_table.proofs.Locking.{locked_counter}
@@ -60,13 +60,16 @@ subtract-requires c =
         ),
         (
           omega arith,
-          subst (λ (x : Me). Owes semaphore_rows key x c.waiter_word-word.result (λ n. (n + 18446744073709551615) % 2 ^ 64)
-              (λ n u. RanRow semaphore_rows here x n u)) (sym E.1.1)
-              (owes_here key c.waiter_word-word.result m d3 place c.requires.seat.2 (λ n. (n + 18446744073709551615) % 2 ^ 64)
-              (λ b n known. record {
-                fits = record { word = word; there = tt; can = refl; becomes = waiters_down known k word (lowered_own known a c.args.turn refl) };
-                apart = refl;
-              })),
+          (
+            waiters_apart c.self.inside c.self.invariant c.self.view_is k c.waiter_word-word.ensures.at,
+            subst (λ (x : Me). Owes semaphore_rows key x c.waiter_word-word.result (λ n. (n + 18446744073709551615) % 2 ^ 64)
+                (λ n u. RanRow semaphore_rows here x n u)) (sym E.1.1)
+                (owes_here key c.waiter_word-word.result m d3 place c.requires.seat.2 (λ n. (n + 18446744073709551615) % 2 ^ 64)
+                (λ b n known. record {
+                  fits = record { word = word; there = tt; can = refl; becomes = waiters_down known k word (lowered_own known a c.args.turn refl) };
+                  apart = refl;
+                })),
+          ),
         ),
       ),
     )

@@ -1,6 +1,6 @@
-use Rattle.std.proofs.Common.{sym, ap, ◌∙◌, arith}
+use Rattle.std.proofs.Common.{refl, sym, ap, ◌∙◌, arith}
 use Rattle.sync_guarded.specs.Seats.{GuardedModel}
-use Rattle.sync_guarded.proofs.Keeping.{lock_owes, sleepers_aside}
+use Rattle.sync_guarded.proofs.Keeping.{lock_owes}
 use Rattle.sync_guarded.proofs.Guards.{locked, is_locked}
 use Rattle.sync_guarded.proofs.guarded.Guarded.lock_patiently.Goals as goal
 
@@ -9,7 +9,7 @@ take_lock_patiently-requires g c = let words = c.self.invariant.words in (
   omega arith,
   (
     (ap (λ (x : GuardedModel). x.id) c.requires.own ∙ sym (ap (λ (x : GuardedModel). x.id) c.self.view_is), c.requires.some),
-    ((omega arith, omega arith), (sleepers_aside _, lock_owes _ 0 c.args.token.now.me c.requires.holds)),
+    ((omega arith, omega arith), (refl, lock_owes _ 0 c.args.token.now.me c.requires.holds)),
   ),
 )
 

@@ -1,4 +1,4 @@
-use Rattle.std.proofs.Common.{sym, ap, ◌∙◌, arith}
+use Rattle.std.proofs.Common.{refl, sym, ap, ◌∙◌, arith}
 use Rattle.sync_guarded.specs.Seats.{GuardedModel}
 use Rattle.sync_guarded.proofs.Keeping.{lock_owes, lock_seen}
 use Rattle.sync_guarded.proofs.Guards.{tried}
@@ -9,7 +9,7 @@ try_lock-requires g c = let words = c.self.invariant.words in (
   omega arith,
   (
     (ap (λ (x : GuardedModel). x.id) c.requires.own ∙ sym (ap (λ (x : GuardedModel). x.id) c.self.view_is), c.requires.some),
-    (omega arith, (lock_seen _, lock_owes _ 0 c.args.token.now.me c.requires.holds)),
+    (omega arith, (lock_seen _, ((1, refl), lock_owes _ 0 c.args.token.now.me c.requires.holds))),
   ),
 )
 

@@ -1,4 +1,4 @@
-use Rattle.std.proofs.Common.{sym, ap, ◌∙◌, arith}
+use Rattle.std.proofs.Common.{refl, sym, ap, ◌∙◌, arith}
 use Rattle.sync_guarded.specs.Seats.{GuardedModel}
 use Rattle.sync_guarded.proofs.Keeping.{unlock_owes}
 use Rattle.sync_guarded.proofs.Guards.{unlocked, is_unlocked}
@@ -9,7 +9,7 @@ give_lock-requires g c = let words = c.self.invariant.words in (
   omega arith,
   (
     (ap (λ (x : GuardedModel). x.id) c.requires.own ∙ sym (ap (λ (x : GuardedModel). x.id) c.self.view_is), c.requires.some),
-    ((omega arith, omega arith), unlock_owes _ 0 c.args.token.now.me c.requires.holds c.requires.out.0 c.requires.out.1),
+    ((omega arith, omega arith), (refl, unlock_owes _ 0 c.args.token.now.me c.requires.holds c.requires.out.0 c.requires.out.1)),
   ),
 )
 

@@ -13,8 +13,11 @@ add-found-requires c = (
     (c.requires.own.0 ∙ ap (λ (w : WordModel). w.id) (sym c.self.view_is), c.requires.some),
     (
       c.self.invariant.0,
-      add_owes _ 0 c.args.token.now.me c.args.d _ c.ranges.d
-          (more_is c.args.d _ _ c.ranges.d c.cast_unsigned.ensures c.from-more.ensures) c.requires.own.1,
+      (
+        (λ x is. absurd is),
+        add_owes _ 0 c.args.token.now.me c.args.d _ c.ranges.d
+            (more_is c.args.d _ _ c.ranges.d c.cast_unsigned.ensures c.from-more.ensures) c.requires.own.1,
+      ),
     ),
   ),
 )

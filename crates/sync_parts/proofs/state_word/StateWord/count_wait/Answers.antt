@@ -14,8 +14,11 @@ exchange-requires c = (
     (c.requires.own.0 ∙ ap (λ (w : WordModel). w.id) (sym c.self.view_is), c.requires.some),
     (
       c.self.invariant.0,
-      exchange_owes (V2 NextCall c.args.seen) c.args.seen (λ n. (n + 1) % 18446744073709551616) c.requires.own.2 (λ n. refl)
-          _ 0 c.args.token.now.me _ _ c.requires.own.1 c.bits_of-bits.ensures refl,
+      (
+        (λ x is. absurd is),
+        exchange_owes (V2 NextCall c.args.seen) c.args.seen (λ n. (n + 1) % 18446744073709551616) c.requires.own.2 (λ n. refl)
+            _ 0 c.args.token.now.me _ _ c.requires.own.1 c.bits_of-bits.ensures refl,
+      ),
     ),
   ),
 )

@@ -11,7 +11,7 @@ store-requires c = (
   omega arith,
   (
     (c.requires.own.0 ∙ ap (λ (w : WordModel). w.id) (sym c.self.view_is), c.requires.some),
-    (c.self.invariant.0, store_owes _ 0 c.args.token.now.me c.args.seen c.requires.own.1),
+    (c.self.invariant.0, ((λ x is. absurd is), store_owes _ 0 c.args.token.now.me c.args.seen c.requires.own.1)),
   ),
 )
 

@@ -14,8 +14,11 @@ exchange-requires c = let own = c.requires.own in (
     (own.0 ∙ ap (λ (w : WordModel). w.id) (sym c.self.view_is), c.requires.some),
     (
       c.self.invariant.0,
-      exchange_owes (V5 given_up c.args.seen) c.args.seen (λ n. n - 1) (own.2, own.3) (λ n. refl)
-          _ 0 c.args.token.now.me _ _ own.1 c.bits_of-bits.ensures refl,
+      (
+        (λ x is. absurd is),
+        exchange_owes (V5 given_up c.args.seen) c.args.seen (λ n. n - 1) (own.2, own.3) (λ n. refl)
+            _ 0 c.args.token.now.me _ _ own.1 c.bits_of-bits.ensures refl,
+      ),
     ),
   ),
 )

@@ -1,0 +1,18 @@
+use Rattle.std.proofs.Common.{refl}
+use mathlib.Core.Option.{none}
+use Rattle.atomic_table.specs.Table.{step}
+use Rattle.running_rows.specs.Futex.{lock_at}
+use Rattle.running_rows.proofs.Dealing.{allowed_look_at_lock, looked_at_lock}
+use Rattle.running_rows.proofs.futexes.Running+S+View+V+T+K+OneWorld+R.finds_lock_held.Goals as goal
+
+pub load-requires : goal.load-requires
+load-requires g c = (
+  c.requires.own,
+  c.requires.there,
+  allowed_look_at_lock g.R.Rows.family _ _ _ c.args.token.now.me (lock_at c.args.word c.args._sleepers) c.requires.futex
+      (step c.args.self.now.table.shared.table_id.slots c.args.word 0 0 none) refl c.requires.counted.0 c.requires.counted.1,
+)
+
+pub returns-clause-counted : goal.returns-clause-counted
+returns-clause-counted g c = looked_at_lock c.args.token.now.me c.load.new.seat.me (step c.args.self.now.table.shared.table_id.slots c.args.word 0 0 none)
+    c.load.result c.args._sleepers c.requires.counted c.load.ensures.2
