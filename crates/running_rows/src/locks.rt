@@ -393,6 +393,7 @@ impl<S, V, T, K, R: Rows<S, V, T, K>> Running<S, View<V, T>, K, OneWorld<R>> {
             × IsSomeones R.family token.old.me.0 }
         requires words { (word < self.now.table.shared.table_id.words)
             × (sleepers < self.now.table.shared.table_id.words) }
+        requires kernel { N.serves (R.family.has_threads (R.family.key self.now.table.shared.key)) }
         requires futex { R.family.IsFutex (R.family.key self.now.table.shared.key) (lock_at word sleepers) }
         requires owes { Owes R.family (R.family.key self.now.table.shared.key) token.old.me word (λ _. 0)
             (λ _. runs_unlock R.family (step self.now.table.shared.table_id.slots word 0 0 none)
@@ -416,6 +417,7 @@ impl<S, V, T, K, R: Rows<S, V, T, K>> Running<S, View<V, T>, K, OneWorld<R>> {
             × IsSomeones R.family token.old.me.0 }
         requires words { (word < self.now.table.shared.table_id.words)
             × (sleepers < self.now.table.shared.table_id.words) }
+        requires kernel { N.serves (R.family.has_threads (R.family.key self.now.table.shared.key)) }
         requires futex { R.family.IsFutex (R.family.key self.now.table.shared.key) (lock_at word sleepers) }
         requires owes { Owes R.family (R.family.key self.now.table.shared.key) token.old.me word (λ _. 0)
             (λ _. runs_unlock_from R.family A.at (step self.now.table.shared.table_id.slots word 0 0 none)

@@ -3,16 +3,17 @@
 //! No thread sleeps in the kernel at it, so none of its calls calls the kernel, and none waits: a task whose
 //! seat sleeps polls again once its seat was named by the answer of a [`TaskTable::wake`] or
 //! [`TaskTable::wake_some`].
-ghost use Rattle.std.specs.Prelude.{◌≡◌, ◌<◌, length, All, Ok, IfOk, IfErr, IfSome, IfNone, map, ◌≢◌, ◌≤◌};
+ghost use Rattle.std.specs.Prelude.{◌≡◌, ◌<◌, length, All, Ok, IfOk, IfErr, IfSome, IfNone, map, ◌≢◌, ◌≤◌, false};
 ghost use Rattle.sema_table.specs.Making.{IsRefused};
 ghost use Rattle.sema_table.specs.declared.task_seat.TaskStage.TheVariants.{Resting};
 ghost use Rattle.sema_table.specs.Tasks.{ReadsByTask, CountsByTask, TriesByTask, PostsByTask, IsMadeForTasks};
 ghost use Rattle.sema_table.specs.Tasks.{Unfit};
 
 use crate::answers::Tried;
+use crate::make::make_with;
 use crate::seat::Seat;
 use crate::sema_table::SemaTable;
-use crate::settings::Settings;
+use crate::settings::{Settings, TableKey};
 use crate::setup_error::SetupError;
 use crate::task_answers::{TaskPosted, TaskRefused};
 use crate::task_seat::{Stage, TaskSeat};
@@ -33,6 +34,8 @@ impl Model for TaskTable {
     ghost Value = { TableModel };
 
     ghost view = { λ t. t.table };
+
+    ghost invariant = { λ t. t.table.setting.has_threads ≡ false };
 }
 
 /// Each seat as a task's.
@@ -54,7 +57,11 @@ impl TaskTable {
         ensures own { IfOk result (λ t. All (λ s. s.seat.table ≡ t.0) t.1.items) }
         ensures err { IfErr result (λ refused. IsRefused settings refused) }
     {
-        let (table, seats) = SemaTable::new(alloc, settings)?;
+        let key = TableKey {
+            settings,
+            has_threads: false,
+        };
+        let (table, seats) = make_with(alloc, key)?;
         match resting_seats(alloc, seats) {
             Ok(seats) => Ok((TaskTable { table }, seats)),
             Err(AllocError) => Err(SetupError::NoMemory),

@@ -15,7 +15,7 @@ use Rattle.sema_table.proofs.Striding.{Ran}
 use Rattle.sema_table.specs.Seats.{TableModel}
 use Rattle.sema_table.specs.Walks.{Walked, parked}
 use Rattle.sema_table.proofs.Allowing.{owes_give}
-use Rattle.sema_table.proofs.Owned.{word_in, someones, lock_sleeps}
+use Rattle.sema_table.proofs.Owned.{word_in, someones, lock_sleeps, serves}
 use Rattle.sema_table.proofs.Striding.{slots_are}
 use Rattle.sema_table.proofs.Leading.{led}
 use Rattle.sema_table.proofs.Walking.{walked_row, ran_from}
@@ -61,6 +61,7 @@ give_lock-requires g c =
         (
           (omega arith, sleeps.0),
           (
+            serves c.self.inside c.self.view_is g.N.Kernel.serves c.requires.kernel,
             sleeps.1,
             subst (λ (x : Me). Owes semaphore_rows key x c.lock_word-word.result (λ _. 0)
                 (λ _ u. runs_unlock semaphore_rows (step 0 0 0 0 none) x 0 u)) (sym E.1.1)

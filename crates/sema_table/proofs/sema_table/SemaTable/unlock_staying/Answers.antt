@@ -30,6 +30,7 @@ give_lock_from-requires c =
         (
           (omega arith, sleeps.0),
           (
+            tt,
             sleeps.1,
             owes_stay _ c.lock_word-word.result s.me a c.args.turn r.place_is (let b = r.limited in omega arith) h.0 0 h.1
                 (λ b n known. record {
