@@ -3,7 +3,7 @@
 //! No thread sleeps in the kernel at it, so none of its calls calls the kernel, and none waits: a task whose
 //! seat is parked polls again once its seat was named by the answer of a [`TaskList::one`], a
 //! [`TaskList::all`] or a [`TaskList::retry_all`].
-ghost use Rattle.std.specs.Prelude.{◌≡◌, ◌≤◌, length, All, IfOk, OnErr, IfErr, map, false};
+ghost use Rattle.std.specs.Prelude.{◌≡◌, ◌≤◌, length, All, IfOk, OnErr, IfErr, map};
 ghost use Rattle.notify_list.specs.declared.task_seat.TaskStage.TheVariants.{Resting};
 ghost use Rattle.notify_list.specs.Making.{IsRefused};
 ghost use Rattle.notify_list.specs.Tasks.{IsMadeForTasks, AddsByTask, LooksByTask, EntersByTask, PollsByTask};
@@ -31,6 +31,7 @@ pub struct TaskList {
 }
 
 impl Model for TaskList {
+    ghost use Rattle.std.specs.Prelude.{◌≡◌, false};
     ghost use Rattle.notify_list.specs.Seats.{ListModel};
 
     ghost Value = { ListModel };

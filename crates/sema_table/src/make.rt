@@ -153,10 +153,7 @@ fn make(alloc: Global, key: &TableKey) -> Result<(SemaTable, Vec<Seat>), NoMemor
 }
 
 /// A table of such words, and its seats in the order of their numbers.
-pub(crate) fn make_with(
-    alloc: Global,
-    key: TableKey,
-) -> Result<(SemaTable, Vec<Seat>), SetupError>
+pub(crate) fn make_with(alloc: Global, key: TableKey) -> Result<(SemaTable, Vec<Seat>), SetupError>
     ensures ok { IfOk result (λ t. IsMadeWith key t.0 t.1.items) }
     ensures own { IfOk result (λ t. All (λ s. s.table ≡ t.0) t.1.items) }
     ensures err { IfErr result (λ refused. IsRefused key.settings refused) }

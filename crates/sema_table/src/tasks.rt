@@ -3,7 +3,7 @@
 //! No thread sleeps in the kernel at it, so none of its calls calls the kernel, and none waits: a task whose
 //! seat sleeps polls again once its seat was named by the answer of a [`TaskTable::wake`] or
 //! [`TaskTable::wake_some`].
-ghost use Rattle.std.specs.Prelude.{◌≡◌, ◌<◌, length, All, Ok, IfOk, IfErr, IfSome, IfNone, map, ◌≢◌, ◌≤◌, false};
+ghost use Rattle.std.specs.Prelude.{◌≡◌, ◌<◌, length, All, Ok, IfOk, IfErr, IfSome, IfNone, map, ◌≢◌, ◌≤◌};
 ghost use Rattle.sema_table.specs.Making.{IsRefused};
 ghost use Rattle.sema_table.specs.declared.task_seat.TaskStage.TheVariants.{Resting};
 ghost use Rattle.sema_table.specs.Tasks.{ReadsByTask, CountsByTask, TriesByTask, PostsByTask, IsMadeForTasks};
@@ -29,6 +29,7 @@ pub struct TaskTable {
 }
 
 impl Model for TaskTable {
+    ghost use Rattle.std.specs.Prelude.{◌≡◌, false};
     ghost use Rattle.sema_table.specs.Seats.{TableModel};
 
     ghost Value = { TableModel };

@@ -26,9 +26,11 @@ grant-requires g c =
           (omega arith, sleeps.0),
           (
             serves c.self.inside c.self.view_is g.N.Kernel.serves c.requires.kernel,
-            sleeps.1,
-            grants_at _ c.self.inside.words.table.shared.table_id.slots c.grant_word-word.result s.me a c.args.handed c.granted_units.result
-                c.granted_units.ensures r.place_is r.limited word there,
+            (
+              sleeps.1,
+              grants_at _ c.self.inside.words.table.shared.table_id.slots c.grant_word-word.result s.me a c.args.handed c.granted_units.result
+                  c.granted_units.ensures r.place_is r.limited word there,
+            ),
           ),
         ),
       ),

@@ -26,8 +26,10 @@ grant-requires g c =
           (omega arith, sleeps.0),
           (
             serves c.self.inside c.self.view_is g.N.Kernel.serves c.requires.kernel,
-            sleeps.1,
-            grants_first _ c.self.inside.words.table.shared.table_id.slots c.grant_word-word.result s.me a r.place_is r.limited word there,
+            (
+              sleeps.1,
+              grants_first _ c.self.inside.words.table.shared.table_id.slots c.grant_word-word.result s.me a r.place_is r.limited word there,
+            ),
           ),
         ),
       ),

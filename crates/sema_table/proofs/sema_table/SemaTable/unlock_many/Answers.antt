@@ -32,15 +32,17 @@ give_lock-requires g c =
           (omega arith, sleeps.0),
           (
             serves c.self.inside c.self.view_is g.N.Kernel.serves c.requires.kernel,
-            sleeps.1,
-            owes_give _ c.lock_word-word.result s.me (ReleasingMany a M6) r.place_is (let b = r.limited in omega arith) h.0 0 h.1
-                (λ b n known. record {
-                  fits = record { word = word; there = tt; can = refl; becomes = refl };
-                  word_is = refl;
-                  holds_it =
-                      on_here (root s.me.0.own.knows.setting a.counter) 1;
-                  is_record = h.2;
-                }),
+            (
+              sleeps.1,
+              owes_give _ c.lock_word-word.result s.me (ReleasingMany a M6) r.place_is (let b = r.limited in omega arith) h.0 0 h.1
+                  (λ b n known. record {
+                    fits = record { word = word; there = tt; can = refl; becomes = refl };
+                    word_is = refl;
+                    holds_it =
+                        on_here (root s.me.0.own.knows.setting a.counter) 1;
+                    is_record = h.2;
+                  }),
+            ),
           ),
         ),
       ),
