@@ -1,4 +1,5 @@
 -- What the rule says of a list between any two steps of its threads.
+use Rattle.std.specs.Prelude.{◌≡◌, true}
 use Rattle.running_rows.specs.Table.{State}
 use Rattle.step_law_lists.specs.ListLawful.{IsLawfulList, IsInReach}
 use Rattle.step_law_lists.specs.ListEntries.{EntriesNamed}

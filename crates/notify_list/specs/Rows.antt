@@ -1,5 +1,5 @@
 -- The rows of a running notify list.
-use Rattle.std.specs.Prelude.{◌≡◌, ℕ, zero, suc, ◌<◌, refl}
+use Rattle.std.specs.Prelude.{◌≡◌, ℕ, zero, suc, ◌<◌, false, refl}
 use Rattle.step_table.specs.declared.list_place.AllRow.TheVariants.{L8}
 use Rattle.step_table.specs.declared.list_place.ListPlace.TheVariants.{NotifyingAll}
 use Rattle.step_table.specs.declared.list_place.ListWord.{ListWord}

@@ -43,9 +43,11 @@ give_lock-requires g c =
           (low_word x c.self.invariant 2 (omega arith), futex.0),
           (
             serves c.self.inside c.self.view_is g.N.Kernel.serves c.requires.kernel,
-            futex.1,
-            gives_plain _ u _ (stands_looked s n word H t L u v E.went E.own true yes_it) (record_looked s n word H t L u v E.went E.own) refl
-                (λ w. (record { word = refl; there = tt; can = refl; becomes = refl }, refl)),
+            (
+              futex.1,
+              gives_plain _ u _ (stands_looked s n word H t L u v E.went E.own true yes_it) (record_looked s n word H t L u v E.went E.own) refl
+                  (λ w. (record { word = refl; there = tt; can = refl; becomes = refl }, refl)),
+            ),
           ),
         ),
       ),
@@ -106,13 +108,15 @@ give_lock-requires-2 g c =
           (low_word x c.self.invariant 2 (omega arith), futex.0),
           (
             serves c.self.inside c.self.view_is g.N.Kernel.serves c.requires.kernel,
-            futex.1,
-            gives_edited _ u c.insert.new.token _ (stands_looked s n word H t L u v E.went E.own false no_it)
-                (with_queue (queue_of u ++ k ∷ []) (guarded_of u)) I refl
-                (λ w same. (
-                  record { word = refl; there = tt; can = refl; becomes = refl },
-                  (λ i. with_queue ((sym same i).queue ++ k ∷ []) (sym same i)),
-                )),
+            (
+              futex.1,
+              gives_edited _ u c.insert.new.token _ (stands_looked s n word H t L u v E.went E.own false no_it)
+                  (with_queue (queue_of u ++ k ∷ []) (guarded_of u)) I refl
+                  (λ w same. (
+                    record { word = refl; there = tt; can = refl; becomes = refl },
+                    (λ i. with_queue ((sym same i).queue ++ k ∷ []) (sym same i)),
+                  )),
+            ),
           ),
         ),
       ),

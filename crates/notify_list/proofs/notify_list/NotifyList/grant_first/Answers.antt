@@ -25,9 +25,11 @@ grant-requires g c =
           ((let g = grant_low x c.self.invariant w.id.seat (omega (arith, mine, low)) in omega (arith, same, word)), futex.0),
           (
             serves c.self.inside c.self.view_is g.N.Kernel.serves c.requires.kernel,
-            futex.1,
-            grants_at _ s.me c.grant_word.result _ (stands8 l s r.0 w r.2 may r.4) (Grant w.id.seat) 1 _ (λ g. refl) (omega (arith, same, word)) low
-                (λ e. absurd (omega (arith, word, e))),
+            (
+              futex.1,
+              grants_at _ s.me c.grant_word.result _ (stands8 l s r.0 w r.2 may r.4) (Grant w.id.seat) 1 _ (λ g. refl) (omega (arith, same, word)) low
+                  (λ e. absurd (omega (arith, word, e))),
+            ),
           ),
         ),
       ),

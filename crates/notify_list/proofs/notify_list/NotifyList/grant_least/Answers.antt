@@ -58,10 +58,12 @@ give_lock-requires g c =
           (low_word x c.self.invariant 2 (omega arith), futex.0),
           (
             serves c.self.inside c.self.view_is g.N.Kernel.serves c.requires.kernel,
-            futex.1,
-            gives_plain _ y _ (stands6 s n h may.seat at3 t L u c.load-ticket.result E.went E.own y c.load.result F.went F.own equal)
-                (record5 s n h may.seat at3 t L u c.load-ticket.result E.went E.own y c.load.result F.went F.own) refl
-                (λ w. (record { word = refl; there = tt; can = refl; becomes = refl }, refl)),
+            (
+              futex.1,
+              gives_plain _ y _ (stands6 s n h may.seat at3 t L u c.load-ticket.result E.went E.own y c.load.result F.went F.own equal)
+                  (record5 s n h may.seat at3 t L u c.load-ticket.result E.went E.own y c.load.result F.went F.own) refl
+                  (λ w. (record { word = refl; there = tt; can = refl; becomes = refl }, refl)),
+            ),
           ),
         ),
       ),

@@ -63,8 +63,10 @@ give_lock-requires g c =
           (low_word x c.self.invariant 2 (omega arith), futex.0),
           (
             serves c.self.inside c.self.view_is g.N.Kernel.serves c.requires.kernel,
-            futex.1,
-            gives_out _ t c.remove-waiter.new.token h k c.remove-waiter.result (stands8 l s h k c.args.next may t n E.went.1 E.own) out,
+            (
+              futex.1,
+              gives_out _ t c.remove-waiter.new.token h k c.remove-waiter.result (stands8 l s h k c.args.next may t n E.went.1 E.own) out,
+            ),
           ),
         ),
       ),
@@ -100,9 +102,11 @@ grant-requires g c =
           ((let g = grant_low x c.self.invariant w.id.seat (omega (arith, mine, low)) in omega (arith, same, word, from)), futex.0),
           (
             serves c.self.inside c.self.view_is g.N.Kernel.serves c.requires.kernel,
-            futex.1,
-            grants_at _ u.me c.grant_word.result _ R.stands_is (Grant w.id.seat) 1 _ (λ g. refl) (omega (arith, same, word, from)) (omega (arith, his, low))
-                (λ e. absurd (omega (arith, word, e))),
+            (
+              futex.1,
+              grants_at _ u.me c.grant_word.result _ R.stands_is (Grant w.id.seat) 1 _ (λ g. refl) (omega (arith, same, word, from)) (omega (arith, his, low))
+                  (λ e. absurd (omega (arith, word, e))),
+            ),
           ),
         ),
       ),

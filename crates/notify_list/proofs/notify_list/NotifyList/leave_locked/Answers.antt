@@ -33,7 +33,7 @@ give_lock-requires g c =
         owned x c.self.invariant v (list4 l s n h.parked t h.list_is h.took h.own u word out v F ∙ sym c.self.view_is),
         (
           (low_word x c.self.invariant 2 (omega arith), futex.0),
-          (serves c.self.inside c.self.view_is g.N.Kernel.serves c.requires.kernel, futex.1, gives4 l s n h.parked t h.list_is h.took h.own u word out v F _),
+          (serves c.self.inside c.self.view_is g.N.Kernel.serves c.requires.kernel, (futex.1, gives4 l s n h.parked t h.list_is h.took h.own u word out v F _)),
         ),
       ),
     )
@@ -71,7 +71,7 @@ give_lock-requires-2 g c =
         owned x c.self.invariant u (list5 l s n h.parked t h.list_is h.took h.own u out ∙ sym c.self.view_is),
         (
           (low_word x c.self.invariant 2 (omega arith), futex.0),
-          (serves c.self.inside c.self.view_is g.N.Kernel.serves c.requires.kernel, futex.1, gives5 l s n h.parked t h.list_is h.took h.own u out _),
+          (serves c.self.inside c.self.view_is g.N.Kernel.serves c.requires.kernel, (futex.1, gives5 l s n h.parked t h.list_is h.took h.own u out _)),
         ),
       ),
     )

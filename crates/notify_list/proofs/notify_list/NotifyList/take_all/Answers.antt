@@ -20,8 +20,10 @@ give_lock-requires g c =
           (low_word x c.self.invariant 2 (omega arith), futex.0),
           (
             serves c.self.inside c.self.view_is g.N.Kernel.serves c.requires.kernel,
-            futex.1,
-            gives_all c.args.self.now s c.requires.seat.0 c.requires.seat.1 may _ c.remove_all-waits.new.token E,
+            (
+              futex.1,
+              gives_all c.args.self.now s c.requires.seat.0 c.requires.seat.1 may _ c.remove_all-waits.new.token E,
+            ),
           ),
         ),
       ),
