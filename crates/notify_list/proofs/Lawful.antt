@@ -16,4 +16,4 @@ the_list z s rule = let kept = rule.kept in let met = kept.shows.met in record {
 }
 
 pub the_sleepers : TheSleepers (Holds list_rows)
-the_sleepers z s x rule is few left = (rule.served x is few).called left
+the_sleepers z s x rule threads is few left = (rule.served x is few).called left

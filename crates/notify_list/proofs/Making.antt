@@ -24,7 +24,7 @@ use Rattle.notify_list.specs.Rule.{nothing_guarded, IsMet, Lands, IsRecord, fres
 use Rattle.notify_list.specs.Futexes.{IsFutex}
 use Rattle.notify_list.specs.Rows.{list_rows}
 use Rattle.notify_list.proofs.Futexes.{are_futexes, far_away}
-use Rattle.notify_list.specs.Making.{IsMade, AreAllowed, new_seat, new_seats}
+use Rattle.notify_list.specs.Making.{IsMadeWith, AreAllowed, new_seat, new_seats}
 use Rattle.notify_list.specs.Places.{is_free}
 use Rattle.notify_list.specs.Plays.{OneSeat}
 use Rattle.notify_list.specs.Seats.{ListModel, SeatModel, Token, IsSeat}
@@ -108,9 +108,9 @@ opens z y fits seats empty = record {
 }
 
 -- the seats of a list are of this list
-pub seats_own : (first count : ℕ) (t : ListModel) (seats : List SeatModel) → IsMade first count t seats → All (λ s. s.list ≡ t) seats
-seats_own first count t seats made =
-    subst (All (λ s. s.list ≡ t)) (sym made.seats_are) (All-map (λ s. s.list ≡ t) (new_seat t) (range_with_len 0 count) (λ i n low. refl))
+pub seats_own : (z : Setting) (t : ListModel) (seats : List SeatModel) → IsMadeWith z t seats → All (λ s. s.list ≡ t) seats
+seats_own z t seats made =
+    subst (All (λ s. s.list ≡ t)) (sym made.seats_are) (All-map (λ s. s.list ≡ t) (new_seat t) (range_with_len 0 z.seats) (λ i n low. refl))
 
 -- a token of a seat that has run nothing
 pub seat_made : (t : Token) (z : Setting) (number : ℕ) → t.me.0.own ≡ fresh_seat list_rows z number → t.me.1 ≡ [] → number < z.seats

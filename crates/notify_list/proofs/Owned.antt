@@ -1,5 +1,5 @@
 -- A seat of a list, and where the list's words lie for it.
-use Rattle.std.proofs.Common.{◌≡◌, ℕ, ◌+◌, ◌<◌, ◌≤◌, inl, inr, sym, ap, ◌∙◌, subst, arith}
+use Rattle.std.proofs.Common.{◌≡◌, ℕ, Bool, ◌+◌, ◌<◌, ◌≤◌, inl, inr, sym, ap, ◌∙◌, subst, arith}
 use Rattle.notify_list.specs.declared.notify_list.NotifyList.TheInside.{Inside}
 use Rattle.notify_list.specs.Seats.{ListModel, SeatModel, Token, list_of, seat_of}
 use Rattle.notify_list.specs.Shared.{IsList, list_by}
@@ -26,6 +26,11 @@ low_word x made i low = let w = made.words in omega arith
 
 pub grant_low : (x : Inside) → Made x → (i : ℕ) → i < x.words.table.shared.key.seats → 3 + i < x.words.table.shared.table_id.words
 grant_low x made i low = let w = made.words in omega arith
+
+-- what holds of a list whose threads sleep, or don't, holds of its words
+pub serves : (x : Inside) {t : ListModel} → list_by x ≡ t → (Serves : Bool → Type 0) → Serves t.setting.has_threads
+    → Serves (list_by x).setting.has_threads
+serves x is Serves = subst (λ (y : ListModel). Serves y.setting.has_threads) (sym is)
 
 -- a seat of the list may step
 pub owned : (x : Inside) → Made x → (s : Token) → list_of s ≡ list_by x

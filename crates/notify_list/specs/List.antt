@@ -1,4 +1,5 @@
 -- What the rule says of a list between any two steps of its threads.
+use Rattle.std.specs.Prelude.{◌≡◌, true}
 use Rattle.running_rows.specs.Table.{State}
 use Rattle.step_law_lists.specs.ListLawful.{IsLawfulList, IsInReach}
 use Rattle.step_law_lists.specs.ListEntries.{EntriesNamed}
@@ -30,4 +31,5 @@ TheList holds = (z : Setting) (s : State Record ListView) → holds z s → IsLa
 -- where a rule holds no sleeper is lost, at the list's lock or at a grant
 abbrev pub TheSleepers : (Setting → State Record ListView → Type 0) → Type 0
 TheSleepers holds =
-    (z : Setting) (s : State Record ListView) (x : Futex) → holds z s → IsFutex z x → NoSleeperIsLost list_rows z s x
+    (z : Setting) (s : State Record ListView) (x : Futex) → holds z s → z.has_threads ≡ true → IsFutex z x
+    → NoSleeperIsLost list_rows z s x

@@ -1,5 +1,5 @@
 -- The rows of a running notify list.
-use Rattle.std.specs.Prelude.{◌≡◌, ℕ, zero, suc, ◌<◌, refl}
+use Rattle.std.specs.Prelude.{◌≡◌, ℕ, zero, suc, ◌<◌, false, refl}
 use Rattle.step_table.specs.declared.list_place.AllRow.TheVariants.{L8}
 use Rattle.step_table.specs.declared.list_place.ListPlace.TheVariants.{NotifyingAll}
 use Rattle.step_table.specs.declared.list_place.ListWord.{ListWord}
@@ -53,7 +53,7 @@ pub record HasStored (p : ListStride) (place x : ℕ) : Type 0 where
 
 -- a list of no seats
 abbrev pub no_list : Setting
-no_list = record { first = 0; seats = 0 }
+no_list = record { first = 0; seats = 0; has_threads = false }
 
 -- who grants one by one, after it took out all waits, may leave wake-ups to those that it wakes
 abbrev pub MayPass : Known → Type 0
@@ -85,6 +85,7 @@ list_rows = record {
   HasStored = λ z. HasStored;
   HasGiven = λ p slots. Unit {0};
   IsFutex = IsFutex;
+  has_threads = λ z. z.has_threads;
   MayPass = MayPass;
   fresh_is = λ z. refl;
   nobody_is = refl;

@@ -24,7 +24,7 @@ use Rattle.notify_list.specs.Tickets.{IsAdded, HasTicket, HasLooked, FindsHeldAf
 use Rattle.notify_list.specs.Waiting.{IsEntered, IsPolled}
 use Rattle.notify_list.specs.Notifying.{NotifiesOne, GrantsLeast, ticket_of, GrantsItsWait}
 use Rattle.notify_list.specs.NotifyingAll.{NotifiesAll, GrantsSome, FindsHeldForAll, EndsAll, NamesSeats}
-use Rattle.notify_list.specs.Making.{IsMade}
+use Rattle.notify_list.specs.Making.{IsMadeWith, for_tasks}
 use Rattle.notify_list.specs.Callers.{GetsTicket, FindsAllGranted, EntersWait, PollsGrant, GivesUp, NotifiesOneTicket}
 use Rattle.notify_list.specs.Callers.{NotifiesAllTickets, EndsNotifyingAll, StandsOn, LeavesOne, LeavesAll}
 use Rattle.notify_list.specs.Meeting.{FindsHeld}
@@ -128,5 +128,5 @@ GoesOnByTask s (Err why) woken t =
 -- anything
 abbrev pub IsMadeForTasks : ℕ → ℕ → ListModel → List TaskModel → Type 0
 IsMadeForTasks first seats l made =
-    (own : List SeatModel) × IsMade first seats l own
+    (own : List SeatModel) × IsMadeWith (for_tasks first seats) l own
     × (made ≡ map (λ s. record { seat = s; stage = Resting }) own)

@@ -9,7 +9,8 @@ use running_rows::{Here, Kernel};
 impl NotifyList {
     /// O7 and O8, and O9 where the ticket's wait is in the list: its seat, which is woken.
     pub(crate) fn grant_one<N: Kernel>(&self, token: &mut Token, ticket: u64) -> Option<u16>
-        requires { (h : ℕ) × MayGrant self.now token.old h ticket }
+        requires kernel { N.serves self.now.setting.has_threads }
+        requires seat { (h : ℕ) × MayGrant self.now token.old h ticket }
         ensures rows { (h : ℕ) → MayGrant self.now token.old h ticket
             → GrantedOne token.old h ticket token.new }
         ensures wait { GrantsLast self.now ticket result token.new }
@@ -20,7 +21,8 @@ impl NotifyList {
 
     /// The same, where the record tells that the ticket is passed and this the next one.
     fn grant_passed<N: Kernel>(&self, token: &mut Token, ticket: u64, next: u64) -> Option<u16>
-        requires { (h : ℕ) × MayStore self.now token.old h ticket next }
+        requires kernel { N.serves self.now.setting.has_threads }
+        requires seat { (h : ℕ) × MayStore self.now token.old h ticket next }
         ensures rows { (h : ℕ) → MayStore self.now token.old h ticket next
             → GrantedOne token.old h ticket token.new }
         ensures wait { GrantsLast self.now ticket result token.new }

@@ -47,7 +47,8 @@ impl NotifyList {
 
     /// The same, where threads sleep, or none does.
     pub(crate) fn try_leave_with<N: Kernel>(&self, parked: Parked) -> Result<GaveUp, Parked>
-        requires { parked.list ≡ self.now }
+        requires kernel { N.serves self.now.setting.has_threads }
+        requires seat { parked.list ≡ self.now }
         ensures rows { MatchResult result (λ gave_up. Leaves parked gave_up)
             (λ still. StillParked parked still) }
         ensures caller { MatchResult result (λ gave_up. GivesUp parked gave_up)
@@ -99,7 +100,8 @@ impl NotifyList {
     /// The same, if the lock is found free.
     #[inline(never)]
     fn try_leave_at_lock<N: Kernel>(&self, parked: Parked) -> Result<GaveUp, Parked>
-        requires { (parked.list ≡ self.now) × MayLeave parked }
+        requires kernel { N.serves self.now.setting.has_threads }
+        requires seat { (parked.list ≡ self.now) × MayLeave parked }
         ensures rows { MatchResult result (λ gave_up. LeavesAtLock parked gave_up)
             (λ still. FindsHeld parked still) }
         ensures lawful { MatchResult result (λ gave_up. SeesLawful gave_up)
@@ -122,7 +124,8 @@ impl NotifyList {
 
     /// The rows after E1, up to the one that gives the lock back.
     fn leave_locked<N: Kernel>(&self, token: Token, number: u16) -> GaveUp
-        requires { (s : Before) × HasLocked self.now s number token }
+        requires kernel { N.serves self.now.setting.has_threads }
+        requires seat { (s : Before) × HasLocked self.now s number token }
         ensures rows { (s : Before) → HasLocked self.now s number token
             → LeavesAtLock (seat_of s number) result }
         ensures lawful { SeesLawful result }

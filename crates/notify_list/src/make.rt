@@ -6,7 +6,7 @@ ghost use Rattle.running_rows.specs.Rule.{fresh_seat};
 ghost use Rattle.notify_list.specs.Rule.{IsRecord, nothing_guarded};
 ghost use Rattle.notify_list.specs.Rows.{list_rows};
 ghost use Rattle.notify_list.specs.Seats.{list_of};
-ghost use Rattle.notify_list.specs.Making.{AreAllowed, IsRefused, IsMade};
+ghost use Rattle.notify_list.specs.Making.{AreAllowed, IsRefused, IsMade, IsMadeWith};
 ghost use Rattle.notify_list.specs.Making as making;
 
 use crate::live::Live;
@@ -70,7 +70,7 @@ fn first_slots(alloc: Global, setting: Setting) -> Result<Vec<Record>, NoMemory>
 /// A list and its seats, in the order of their numbers.
 fn make(alloc: Global, setting: Setting) -> Result<(NotifyList, Vec<ListSeat>), NoMemory>
     requires { AreAllowed setting.seats × (setting.first < 2 ^ 64) }
-    ensures { IfOk result (λ t. IsMade setting.first setting.seats t.0 t.1.items) }
+    ensures { IfOk result (λ t. IsMadeWith setting t.0 t.1.items) }
 {
     let seats = setting.seats;
     let starts = first_words(alloc, setting)?;
@@ -94,6 +94,24 @@ fn make(alloc: Global, setting: Setting) -> Result<(NotifyList, Vec<ListSeat>), 
     Ok((list, made))
 }
 
+/// A list made so, and its seats in the order of their numbers.
+pub(crate) fn make_with(
+    alloc: Global,
+    setting: Setting,
+) -> Result<(NotifyList, Vec<ListSeat>), SetupError>
+    ensures ok { IfOk result (λ t. IsMadeWith setting t.0 t.1.items) }
+    ensures own { IfOk result (λ t. All (λ s. s.list ≡ t.0) t.1.items) }
+    ensures err { IfErr result (λ refused. IsRefused setting.seats refused) }
+{
+    if setting.seats == 0 || setting.seats > MAX_SEATS {
+        return Err(SetupError::Seats);
+    }
+    match make(alloc, setting) {
+        Ok(made) => Ok(made),
+        Err(NoMemory) => Err(SetupError::NoMemory),
+    }
+}
+
 impl NotifyList {
     /// A list whose first ticket is this one, and its seats in the order of their numbers. An error has made
     /// nothing: there are not 1 to 65,536 seats, or no memory for them.
@@ -106,12 +124,13 @@ impl NotifyList {
         ensures own { IfOk result (λ t. All (λ s. s.list ≡ t.0) t.1.items) }
         ensures err { IfErr result (λ refused. IsRefused seats refused) }
     {
-        if seats == 0 || seats > MAX_SEATS {
-            return Err(SetupError::Seats);
-        }
-        match make(alloc, Setting { first, seats }) {
-            Ok(made) => Ok(made),
-            Err(NoMemory) => Err(SetupError::NoMemory),
-        }
+        make_with(
+            alloc,
+            Setting {
+                first,
+                seats,
+                has_threads: true,
+            },
+        )
     }
 }

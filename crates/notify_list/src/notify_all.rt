@@ -69,6 +69,7 @@ impl NotifyList {
         seat: ListSeat,
         woken: &mut [u32],
     ) -> Result<(ListSeat, NotifiedAll), OwingAll>
+        requires kernel { N.serves self.now.setting.has_threads }
         requires seat { seat.list ≡ self.now }
         requires room { self.now.setting.seats ≤ length woken.old }
         ensures rows { MatchResult result (λ all. NotifiesAll seat all.1.tickets all.0)
@@ -115,6 +116,7 @@ impl NotifyList {
         owing: OwingAll,
         woken: &mut [u32],
     ) -> Result<(ListSeat, NotifiedAll), OwingAll>
+        requires kernel { N.serves self.now.setting.has_threads }
         requires seat { owing.list ≡ self.now }
         requires room { self.now.setting.seats ≤ length woken.old }
         ensures rows { MatchResult result (λ all. EndsAll owing all.1.tickets all.0)
@@ -192,6 +194,7 @@ impl NotifyList {
     /// L7: all waits are taken out, and the lock is given back. The room begins with their seats. It answers how
     /// many they are.
     fn take_all<N: Kernel>(&self, token: &mut Token, room: &mut [u32]) -> usize
+        requires kernel { N.serves self.now.setting.has_threads }
         requires seat { (h : ℕ) × (n : ℕ) × MayTake self.now token.old h n }
         requires room { length (queue_of token.old) ≤ length room.old }
         ensures taken { (h n : ℕ) → MayTake self.now token.old h n → TakenAll token.old h n token.new }
@@ -219,6 +222,7 @@ impl NotifyList {
 
     /// L8 for each wait in hand, of which these are the seats. Each is woken as it is granted.
     fn grant_seats<N: Kernel>(&self, token: &mut Token, seats: &[u32])
+        requires kernel { N.serves self.now.setting.has_threads }
         requires seat { (h : ℕ) × MayWake self.now token.old h }
         requires seats { seats.now ≡ map (λ w. w.id.seat) (stands_of token.old).hand }
         ensures rows { (h : ℕ) → MayWake self.now token.old h
@@ -232,7 +236,8 @@ impl NotifyList {
 
     /// L8: the seat of the first wait in hand is granted, and woken.
     fn grant_first<N: Kernel>(&self, token: &mut Token, seat: u32)
-        requires { (h : ℕ) × (w : Queued) × (rest : List Queued) × MayWake self.now token.old h
+        requires kernel { N.serves self.now.setting.has_threads }
+        requires seat { (h : ℕ) × (w : Queued) × (rest : List Queued) × MayWake self.now token.old h
             × ((stands_of token.old).hand ≡ w ∷ rest) × (w.id.seat ≡ seat) }
         ensures rows { (h : ℕ) (w : Queued) (rest : List Queued) → MayWake self.now token.old h
             → (stands_of token.old).hand ≡ w ∷ rest → WokenFirst token.old h w rest token.new }

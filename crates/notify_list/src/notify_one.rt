@@ -71,7 +71,8 @@ impl NotifyList {
         &self,
         seat: &mut ListSeat,
     ) -> Result<Option<Notified>, Busy>
-        requires { seat.old.list ≡ self.now }
+        requires kernel { N.serves self.now.setting.has_threads }
+        requires seat { seat.old.list ≡ self.now }
         ensures rows { MatchResult result (λ notified. NotifiesOne seat.old (ticket_of notified) seat.new)
             (λ busy. FindsHeldAfterLooks seat.old seat.new) }
         ensures some { IfOk result (λ notified.
@@ -93,6 +94,7 @@ impl NotifyList {
     /// The rows from O3 on, if the lock is found free.
     #[inline(never)]
     fn try_one_at_lock<N: Kernel>(&self, seat: &mut ListSeat) -> Result<Option<Notified>, Busy>
+        requires kernel { N.serves self.now.setting.has_threads }
         requires seat { seat.old.list ≡ self.now }
         requires place { (h : ℕ) × (seat.old.sight.stands.place ≡ NotifyingOne h O3) }
         ensures rows { (h : ℕ) → seat.old.sight.stands.place ≡ NotifyingOne h O3
@@ -109,7 +111,8 @@ impl NotifyList {
 
     /// The rows from O4 on, under the lock, which is given back. The seat that is granted is woken.
     fn grant_least<N: Kernel>(&self, token: &mut Token) -> Option<Notified>
-        requires { (s : Before) × (n : ℕ) × (h : ℕ) × MayNotify self.now s n h token.old }
+        requires kernel { N.serves self.now.setting.has_threads }
+        requires seat { (s : Before) × (n : ℕ) × (h : ℕ) × MayNotify self.now s n h token.old }
         ensures rows { (s : Before) (n h : ℕ) → MayNotify self.now s n h token.old
             → EndsOne (seat_of s n) h (ticket_of result) (seat_of token.new n) × IsSeat token.new n }
         ensures own { list_of token.new ≡ self.now }

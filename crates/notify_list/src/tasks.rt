@@ -10,12 +10,14 @@ ghost use Rattle.notify_list.specs.Tasks.{IsMadeForTasks, AddsByTask, LooksByTas
 ghost use Rattle.notify_list.specs.Tasks.{LeavesByTask};
 ghost use Rattle.notify_list.specs.Tasks.{NotifiesOneByTask, NotifiesAllByTask, GoesOnByTask};
 
+use crate::make::make_with;
 use crate::notified::{Notified, NotifiedAll};
 use crate::notify_list::NotifyList;
 use crate::seat::{Holding, ListSeat, OwingAll, Parked};
 use crate::setup_error::SetupError;
 use crate::task_answers::{TaskEntered, TaskGaveUp, TaskPolled, TaskRefused};
 use crate::task_seat::{Stage, TaskListSeat};
+use crate::view::Setting;
 use crate::waited::{Entered, GaveUp, Polled};
 use running_rows::NoThreads;
 use std::alloc::{AllocError, Global};
@@ -29,11 +31,14 @@ pub struct TaskList {
 }
 
 impl Model for TaskList {
+    ghost use Rattle.std.specs.Prelude.{◌≡◌, false};
     ghost use Rattle.notify_list.specs.Seats.{ListModel};
 
     ghost Value = { ListModel };
 
     ghost view = { λ t. t.list };
+
+    ghost invariant = { λ t. t.list.setting.has_threads ≡ false };
 }
 
 /// Each seat as a task's.
@@ -59,12 +64,15 @@ impl TaskList {
         ensures own { IfOk result (λ t. All (λ s. s.seat.list ≡ t.0) t.1.items) }
         ensures err { IfErr result (λ refused. IsRefused seats refused) }
     {
-        match NotifyList::starting_at(alloc, first, seats) {
-            Ok((list, made)) => match resting_seats(alloc, made) {
-                Ok(made) => Ok((TaskList { list }, made)),
-                Err(AllocError) => Err(SetupError::NoMemory),
-            },
-            Err(refused) => Err(refused),
+        let setting = Setting {
+            first,
+            seats,
+            has_threads: false,
+        };
+        let (list, made) = make_with(alloc, setting)?;
+        match resting_seats(alloc, made) {
+            Ok(made) => Ok((TaskList { list }, made)),
+            Err(AllocError) => Err(SetupError::NoMemory),
         }
     }
 

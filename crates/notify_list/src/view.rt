@@ -4,11 +4,13 @@ use std::marker::Model;
 use step_table::{ListPlace, Ticket};
 use waiters::{ListKey, Lists, Wait};
 
-/// What a list was made with: the word of its first ticket, and how many seats there are.
+/// What a list was made with: the word of its first ticket, how many seats there are, and whether threads sleep at
+/// its words: at a list for tasks none does.
 #[derive(Clone, Copy, Drop)]
 pub struct Setting {
     pub first: u64,
     pub seats: u32,
+    pub has_threads: bool,
 }
 
 /// An entry of the list's journal: the seat took a ticket, or it granted tickets up to this many, or it left

@@ -67,7 +67,8 @@ impl NotifyList {
 
     /// The same, where threads sleep, or none does.
     pub(crate) fn try_wait_with<N: Kernel>(&self, holding: Holding) -> Result<Entered, Holding>
-        requires { holding.list ≡ self.now }
+        requires kernel { N.serves self.now.setting.has_threads }
+        requires seat { holding.list ≡ self.now }
         ensures rows { MatchResult result (λ entered. IsEntered holding entered) (λ kept. FindsHeld holding kept) }
         ensures caller { MatchResult result (λ entered. EntersWait holding entered) (λ kept. StandsOn holding kept) }
     {
@@ -88,7 +89,8 @@ impl NotifyList {
 
     /// The rows of a wait from W2 on, under the lock, which is given back.
     fn enter<N: Kernel>(&self, token: Token, number: u16, ticket: u64) -> Entered
-        requires { (s : Before) × MayEnter self.now s number ticket token }
+        requires kernel { N.serves self.now.setting.has_threads }
+        requires seat { (s : Before) × MayEnter self.now s number ticket token }
         ensures rows { (s : Before) → MayEnter self.now s number ticket token
             → IsEntered (seat_of s number) result }
         ensures caller { (s : Before) → MayEnter self.now s number ticket token

@@ -1,6 +1,6 @@
 -- A family of rows: which worlds its words and records show, what a seat knows of them, and what a stride of
 -- it is.
-use Rattle.std.specs.Prelude.{◌≡◌, ℕ, List}
+use Rattle.std.specs.Prelude.{◌≡◌, ℕ, Bool, List}
 use mathlib.Core.Option.{Option}
 use Rattle.step_table.specs.Path.{Watched, Sight, Stride}
 use Rattle.running_rows.specs.declared.view.Seated.{Seated}
@@ -41,8 +41,9 @@ pub record Family (S V T K : Type 0) : Type 1 where
   pub HasStored : Key → T → ℕ → ℕ → Type 0
   -- the stride gave back the record that was taken last: the first of these slots, which the seat held
   pub HasGiven : T → List (ℕ × S) → Type 0
-  -- where threads sleep in the kernel
+  -- where threads sleep in the kernel, and whether any does: the laws of sleepers are of such words
   pub IsFutex : Key → Futex → Type 0
+  pub has_threads : Key → Bool
   -- a seat that knows this may store a grant, and leave it to another to wake who sleeps there
   pub MayPass : V → Type 0
   pub fresh_is : (k : Key) → of (fresh k) ≡ k

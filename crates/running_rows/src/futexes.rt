@@ -155,6 +155,7 @@ impl<S, V, T, K, R: Rows<S, V, T, K>> Running<S, View<V, T>, K, OneWorld<R>> {
         requires own { token.old.table_id ≡ self.now.table.shared.table_id }
         requires there { (word < self.now.table.shared.table_id.words)
             × (sleepers < self.now.table.shared.table_id.words) }
+        requires kernel { N.serves (R.family.has_threads (R.family.key self.now.table.shared.key)) }
         requires futex { R.family.IsFutex (R.family.key self.now.table.shared.key) (lock_at word sleepers) }
         requires owes { IsOwing word token.old.me.0.parking }
         ensures own { token.new.table_id ≡ token.old.table_id }
@@ -177,6 +178,7 @@ impl<S, V, T, K, R: Rows<S, V, T, K>> Running<S, View<V, T>, K, OneWorld<R>> {
         requires own { token.old.table_id ≡ self.now.table.shared.table_id }
         requires there { (word < self.now.table.shared.table_id.words)
             × (sleepers < self.now.table.shared.table_id.words) }
+        requires kernel { N.serves (R.family.has_threads (R.family.key self.now.table.shared.key)) }
         requires futex { R.family.IsFutex (R.family.key self.now.table.shared.key) (grant_at word sleepers) }
         requires owes { IsOwing word token.old.me.0.parking }
         ensures own { token.new.table_id ≡ token.old.table_id }
@@ -196,6 +198,7 @@ impl<S, V, T, K, R: Rows<S, V, T, K>> Running<S, View<V, T>, K, OneWorld<R>> {
     fn call_kernel<N: Kernel>(&self, token: &mut Token<S, V, T>, word: usize)
         requires own { token.old.table_id ≡ self.now.table.shared.table_id }
         requires there { word < self.now.table.shared.table_id.words }
+        requires kernel { N.serves (R.family.has_threads (R.family.key self.now.table.shared.key)) }
         requires futex { (x : Futex) × R.family.IsFutex (R.family.key self.now.table.shared.key) x × (x.word ≡ word) }
         requires owes { IsOwing word token.old.me.0.parking }
         ensures own { token.new.table_id ≡ token.old.table_id }

@@ -31,6 +31,7 @@ mod rule;
 mod running;
 mod sleeping;
 mod steps;
+mod tries;
 mod view;
 
 pub use atomic_table::{Closed, Refused, TableRule};

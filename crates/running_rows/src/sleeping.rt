@@ -246,6 +246,7 @@ impl<S, V, T, K, R: Rows<S, V, T, K>> Running<S, View<V, T>, K, OneWorld<R>> {
             × IsSomeones R.family token.old.me.0 }
         requires words { (word < self.now.table.shared.table_id.words)
             × (asleep < self.now.table.shared.table_id.words) }
+        requires kernel { N.serves (R.family.has_threads (R.family.key self.now.table.shared.key)) }
         requires futex { R.family.IsFutex (R.family.key self.now.table.shared.key) (grant_at word asleep) }
         requires owes { Owes R.family (R.family.key self.now.table.shared.key) token.old.me word (λ _. units)
             (λ _. runs_grant R.family (step self.now.table.shared.table_id.slots word units 0 none)

@@ -1,7 +1,8 @@
 //! A table or a list, with a pool of its seats.
 ghost use Rattle.std.specs.Prelude.{◌≡◌, Some, IfOk, IfErr};
-ghost use Rattle.sema_table.specs.Rule.{setting_of};
+ghost use Rattle.sema_table.specs.Rule.{for_threads, for_tasks, setting_of};
 ghost use Rattle.sema_table.specs.Making.{IsRefused as RefusesTable};
+ghost use Rattle.notify_list.specs.Making as list;
 ghost use Rattle.notify_list.specs.Making.{IsRefused as RefusesList};
 
 use crate::pool::{Borrower, SeatPool};
@@ -23,7 +24,7 @@ pub fn pooled_table<R: Wait>(
     ),
     SetupError,
 >
-    ensures setting { IfOk result (λ made. made.0.setting ≡ setting_of settings) }
+    ensures setting { IfOk result (λ made. made.0.setting ≡ setting_of (for_threads settings)) }
     ensures pool { IfOk result (λ made. (made.2.pool ≡ made.1) × (made.2.home ≡ Some made.0)) }
     ensures err { IfErr result (λ refused. RefusesTable settings refused) }
 {
@@ -47,7 +48,7 @@ pub fn pooled_task_table<R: Wait>(
     ),
     SetupError,
 >
-    ensures setting { IfOk result (λ made. made.0.setting ≡ setting_of settings) }
+    ensures setting { IfOk result (λ made. made.0.setting ≡ setting_of (for_tasks settings)) }
     ensures pool { IfOk result (λ made. (made.2.pool ≡ made.1) × (made.2.home ≡ Some made.0)) }
     ensures err { IfErr result (λ refused. RefusesTable settings refused) }
 {
@@ -73,7 +74,7 @@ pub fn pooled_list<R: Wait>(
     ),
     ListSetupError,
 >
-    ensures setting { IfOk result (λ made. made.0.setting ≡ record { first = first; seats = seats }) }
+    ensures setting { IfOk result (λ made. made.0.setting ≡ list.for_threads first seats) }
     ensures pool { IfOk result (λ made. (made.2.pool ≡ made.1) × (made.2.home ≡ Some made.0)) }
     ensures err { IfErr result (λ refused. RefusesList seats refused) }
 {
@@ -98,7 +99,7 @@ pub fn pooled_task_list<R: Wait>(
     ),
     ListSetupError,
 >
-    ensures setting { IfOk result (λ made. made.0.setting ≡ record { first = first; seats = seats }) }
+    ensures setting { IfOk result (λ made. made.0.setting ≡ list.for_tasks first seats) }
     ensures pool { IfOk result (λ made. (made.2.pool ≡ made.1) × (made.2.home ≡ Some made.0)) }
     ensures err { IfErr result (λ refused. RefusesList seats refused) }
 {

@@ -24,8 +24,8 @@ use Rattle.running_rows.specs.Rule.{Opens}
 use Rattle.sema_table.specs.Rule.{Knows}
 use Rattle.sema_table.specs.Rows.{fresh, semaphore_rows}
 use Rattle.std.proofs.lemmas.List.Elements.{All-map}
-use Rattle.sema_table.specs.declared.settings.Settings.{Settings}
-use Rattle.sema_table.specs.Making.{IsMade, new_root, new_roots, new_seat, new_seats}
+use Rattle.sema_table.specs.declared.settings.TableKey.{TableKey}
+use Rattle.sema_table.specs.Making.{IsMadeWith, new_root, new_roots, new_seat, new_seats}
 use Rattle.sema_table.specs.Seats.{TableModel, SeatModel}
 use Rattle.sema_table.specs.Futexes.{IsTableFutex}
 use Rattle.running_rows.specs.Futex.{Futex}
@@ -128,6 +128,6 @@ module _ (z : Setting) where
   }
 
 -- the seats of a table are of this table
-pub seats_own : (k : Settings) (t : TableModel) (seats : List SeatModel) → IsMade k t seats → All (λ s. s.table ≡ t) seats
+pub seats_own : (k : TableKey) (t : TableModel) (seats : List SeatModel) → IsMadeWith k t seats → All (λ s. s.table ≡ t) seats
 seats_own k t seats made =
-    subst (All (λ s. s.table ≡ t)) (sym made.seats_are) (All-map (λ s. s.table ≡ t) (new_seat t) (range_with_len 0 k.seats) (λ i n low. refl))
+    subst (All (λ s. s.table ≡ t)) (sym made.seats_are) (All-map (λ s. s.table ≡ t) (new_seat t) (range_with_len 0 k.settings.seats) (λ i n low. refl))

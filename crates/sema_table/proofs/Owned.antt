@@ -1,5 +1,5 @@
 -- A seat of a table, and where the table's words lie for it.
-use Rattle.std.proofs.Common.{◌≡◌, ℕ, ◌*◌, ◌<◌, length, refl, sym, ap, ◌∙◌, subst, arith}
+use Rattle.std.proofs.Common.{◌≡◌, ℕ, Bool, ◌*◌, ◌<◌, length, refl, sym, ap, ◌∙◌, subst, arith}
 use Rattle.step_table.specs.declared.word.Word.{Word}
 use Rattle.step_table.specs.declared.word.Word.TheVariants.{Lock, Waiters, Grant}
 use Rattle.sema_table.specs.declared.seat.Numbers.{Numbers}
@@ -54,11 +54,16 @@ has_word x made = let a = made.any in let c = made.counted in let w = made.words
 pub someones : (x : Inside) → IsMade x → (s : Token) → table_of s ≡ table_by x → IsSomeones semaphore_rows s.me.0
 someones x made s own = subst (λ (y : TableModel). 0 < y.setting.seats) (sym own) (let a = made.few.0 in let c = made.seated in omega arith)
 
+-- what holds of a table whose threads sleep, or don't, holds of its words
+pub serves : (x : Inside) {t : TableModel} (is : table_by x ≡ t) (Serves : Bool → Type 0) → Serves t.setting.has_threads
+    → Serves (table_by x).setting.has_threads
+serves x is Serves = subst (λ (y : TableModel). Serves y.setting.has_threads) (sym is)
+
 module _ (x : Inside) {t : TableModel} (made : IsMade x) (is : table_by x ≡ t) where
-  some : 0 < x.words.table.shared.key.roots
+  some : 0 < x.words.table.shared.key.settings.roots
   some = let r = made.rooted in let a = made.some in omega arith
 
-  seat_in : (s : ℕ) → s < t.setting.seats → s < x.words.table.shared.key.seats
+  seat_in : (s : ℕ) → s < t.setting.seats → s < x.words.table.shared.key.settings.seats
   seat_in s = subst (λ (y : TableModel). s < y.setting.seats) (sym is)
 
   -- the words of the table at which threads sleep: the lock of a counter's root, and the grant of a seat

@@ -5,12 +5,13 @@ use Rattle.step_table.specs.declared.place.Place.TheVariants.{Rest}
 use Rattle.sema_root.specs.Tree.{leaf}
 use Rattle.sema_root.specs.Treap.{tickets_from}
 use Rattle.sema_table.specs.declared.settings.Settings.{Settings}
+use Rattle.sema_table.specs.declared.settings.TableKey.{TableKey}
 use Rattle.sema_table.specs.declared.setup_error.SetupError.{SetupError}
 use Rattle.sema_table.specs.declared.setup_error.SetupError.TheVariants.{Counters, Seats, Roots, ReleaseLimit}
 use Rattle.sema_table.specs.declared.setup_error.SetupError.TheVariants.{NoMemory}
 use Rattle.sema_table.specs.declared.view.Record.{Record}
 use Rattle.sema_table.specs.declared.view.Record.TheVariants.{Root}
-use Rattle.sema_table.specs.Rule.{setting_of}
+use Rattle.sema_table.specs.Rule.{for_threads, setting_of}
 use Rattle.sema_table.specs.Seats.{TableModel, SeatModel}
 
 -- 1 to so many, or not
@@ -79,8 +80,12 @@ new_root seats seed = Root (record { tree = leaf; tickets = tickets_from seed; s
 abbrev pub new_roots : ℕ → ℕ → ℕ → List Record
 new_roots seats seed count = map (λ r. new_root seats ((seed + r) % 2 ^ 64)) (range_with_len 0 count)
 
--- a table with these settings, and its seats in the order of their numbers
-pub record IsMade (k : Settings) (t : TableModel) (seats : List SeatModel) : Type 0 where
-  pub allowed : AreAllowed k
+-- a table of such words, and its seats in the order of their numbers
+pub record IsMadeWith (k : TableKey) (t : TableModel) (seats : List SeatModel) : Type 0 where
+  pub allowed : AreAllowed k.settings
   pub setting : t.setting ≡ setting_of k
-  pub seats_are : seats ≡ new_seats t 0 k.seats
+  pub seats_are : seats ≡ new_seats t 0 k.settings.seats
+
+-- the same for threads, with these settings
+abbrev pub IsMade : Settings → TableModel → List SeatModel → Type 0
+IsMade k = IsMadeWith (for_threads k)

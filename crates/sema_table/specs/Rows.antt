@@ -1,5 +1,5 @@
 -- The rows of a table: those of the step table, in one reached world.
-use Rattle.std.specs.Prelude.{◌≡◌, ℕ, ◌+◌, ◌^◌, ◌<◌, ◌≤◌, true, [], refl}
+use Rattle.std.specs.Prelude.{◌≡◌, ℕ, ◌+◌, ◌^◌, ◌<◌, ◌≤◌, true, false, [], refl}
 use Rattle.running_rows.specs.Table as atomic
 use Rattle.step_table.specs.declared.entry.Entry.{Entry}
 use Rattle.step_table.specs.declared.place.Place.{Place}
@@ -17,7 +17,7 @@ use Rattle.sema_root.specs.Treap.{Treap}
 use Rattle.running_rows.specs.declared.view.View.{View}
 use Rattle.running_rows.specs.declared.view.Seated.{Seated}
 use Rattle.running_rows.specs.Family.{Family}
-use Rattle.sema_table.specs.declared.settings.Settings.{Settings}
+use Rattle.sema_table.specs.declared.settings.TableKey.{TableKey}
 use Rattle.sema_table.specs.declared.view.Known.{Known}
 use Rattle.sema_table.specs.declared.view.Setting.{Setting}
 use Rattle.sema_table.specs.declared.view.Record.{Record}
@@ -63,9 +63,9 @@ abbrev pub fresh : Setting → Known
 fresh z = record { setting = z; place = Rest; turn = 0; hand = []; seen = []; taken = 0 }
 
 abbrev pub nowhere : Setting
-nowhere = record { starts = []; roots = 0; seats = 0; limit = 0; seed = 0 }
+nowhere = record { starts = []; roots = 0; seats = 0; limit = 0; seed = 0; has_threads = false }
 
-abbrev pub semaphore_rows : Family Record Known SemaStride Settings
+abbrev pub semaphore_rows : Family Record Known SemaStride TableKey
 semaphore_rows = record {
   Key = Setting;
   World = SemaWorld;
@@ -91,6 +91,7 @@ semaphore_rows = record {
   HasStored = HasStored;
   HasGiven = λ p slots. Unit {0};
   IsFutex = IsTableFutex;
+  has_threads = λ z. z.has_threads;
   MayPass = λ v. ⊥;
   fresh_is = λ z. refl;
   nobody_is = refl;

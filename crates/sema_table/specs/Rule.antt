@@ -1,5 +1,5 @@
 -- What words and records at home show of a world of semaphores, and what a seat knows of it.
-use Rattle.std.specs.Prelude.{◌≡◌, ℕ, zero, suc, ◌+◌, ◌%◌, ◌^◌, ◌<◌, ◌≤◌, List, length, map, slice_index}
+use Rattle.std.specs.Prelude.{◌≡◌, ℕ, zero, suc, ◌+◌, ◌%◌, ◌^◌, ◌<◌, ◌≤◌, true, false, List, length, map, slice_index}
 use mathlib.Core.Option.{Option, some}
 use lib.ListN.{get_elem?}
 use Rattle.waiters.specs.declared.wait.WaitId.{WaitId}
@@ -18,19 +18,28 @@ use Rattle.sema_root.specs.Queues.{waits_on}
 use Rattle.sema_root.specs.Queues as queues
 use Rattle.sema_root.specs.Treap.{Treap, Tickets, queues_of, drawn_from, tickets_from}
 use Rattle.sema_table.specs.declared.settings.Settings.{Settings}
+use Rattle.sema_table.specs.declared.settings.TableKey.{TableKey}
 use Rattle.sema_table.specs.declared.view.Known.{Known}
 use Rattle.sema_table.specs.declared.view.Setting.{Setting}
 use Rattle.sema_table.specs.declared.view.Record.{Record}
 use Rattle.sema_table.specs.declared.view.Record.TheVariants.{Root}
 use Rattle.sema_table.specs.Setting.{root, layout, address, words_in, IsThere}
 
-abbrev pub setting_of : Settings → Setting
+-- what the words of a table with these settings are made with: threads sleep there, or none does
+abbrev pub for_threads : Settings → TableKey
+for_threads k = record { settings = k; has_threads = true }
+
+abbrev pub for_tasks : Settings → TableKey
+for_tasks k = record { settings = k; has_threads = false }
+
+abbrev pub setting_of : TableKey → Setting
 setting_of k = record {
-  starts = k.starts.items;
-  roots = k.roots;
-  seats = k.seats;
-  limit = k.release_limit;
-  seed = k.seed;
+  starts = k.settings.starts.items;
+  roots = k.settings.roots;
+  seats = k.settings.seats;
+  limit = k.settings.release_limit;
+  seed = k.settings.seed;
+  has_threads = k.has_threads;
 }
 
 -- how a seat stands, and what it has seen

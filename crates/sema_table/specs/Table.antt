@@ -15,7 +15,7 @@ use Rattle.running_rows.specs.History.{SeatStride, Writes}
 use Rattle.running_rows.specs.Rule.{In, IsSomeones, IsSeated, HasSeats}
 use Rattle.sema_table.specs.declared.view.Record.{Record}
 use Rattle.sema_table.specs.declared.view.Setting.{Setting}
-use Rattle.sema_table.specs.declared.settings.Settings.{Settings}
+use Rattle.sema_table.specs.declared.settings.TableKey.{TableKey}
 use Rattle.sema_table.specs.Setting.{root, layout, address, words_in}
 use Rattle.sema_table.specs.Rule.{setting_of, Knows, AtHome}
 use Rattle.sema_table.specs.Rows.{SemaView, semaphore_rows, fresh}
@@ -57,6 +57,6 @@ pub record IsLawfulTable (z : Setting) (s : State Record SemaView) : Type 0 wher
   pub shows : Shows z s world
 
 -- a table of which such a rule holds is lawful
-abbrev pub MakesLawful : (Settings → State Record SemaView → Type 0) → Type 0
+abbrev pub MakesLawful : (TableKey → State Record SemaView → Type 0) → Type 0
 MakesLawful holds =
-    (key : Settings) (s : State Record SemaView) → holds key s → IsLawfulTable (setting_of key) s
+    (key : TableKey) (s : State Record SemaView) → holds key s → IsLawfulTable (setting_of key) s

@@ -30,7 +30,8 @@ use Rattle.sema_table.specs.declared.task_seat.TaskStage.TheVariants.{Resting, O
 use Rattle.sema_table.specs.Seats.{TableModel, SeatModel}
 use Rattle.sema_table.specs.Changes.{HasChanged}
 use Rattle.sema_table.specs.Outcomes.{IfLost}
-use Rattle.sema_table.specs.Making.{IsMade}
+use Rattle.sema_table.specs.Making.{IsMadeWith}
+use Rattle.sema_table.specs.Rule.{for_tasks}
 use Rattle.sema_table.specs.Tries.{IsValue, IsWaiters, IsTried, IsPosted, FindsHeld}
 use Rattle.sema_table.specs.Waking.{acquire_of, IsEntered, IsPolled, TriesWoken, IsWakened, StillOwes}
 use Rattle.sema_table.specs.Leaving.{Leaves, StillParked}
@@ -171,4 +172,4 @@ WakesSomeByTask s (Err why) t =
 -- anything
 abbrev pub IsMadeForTasks : Settings → TableModel → List TaskModel → Type 0
 IsMadeForTasks k t seats =
-    (made : List SeatModel) × IsMade k t made × (seats ≡ map (λ s. record { seat = s; stage = Resting }) made)
+    (made : List SeatModel) × IsMadeWith (for_tasks k) t made × (seats ≡ map (λ s. record { seat = s; stage = Resting }) made)

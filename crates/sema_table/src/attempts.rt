@@ -40,7 +40,8 @@ impl SemaTable {
         counter: CounterId,
         lifo: bool,
     ) -> Result<Entered, Seat>
-        requires { (seat.table ≡ self.now) × (counter < length self.now.setting.starts) }
+        requires kernel { N.serves self.now.setting.has_threads }
+        requires seat { (seat.table ≡ self.now) × (counter < length self.now.setting.starts) }
         ensures rows { MatchResult result
             (λ entered. IsEntered seat (acquire_of counter lifo) (Acquiring (acquire_of counter lifo) A3) entered)
             (λ refused. FindsHeld seat counter refused) }
@@ -73,7 +74,8 @@ impl SemaTable {
         owing: Owing,
         handoff: bool,
     ) -> Result<(Seat, Wake), Owing>
-        requires { owing.table ≡ self.now }
+        requires kernel { N.serves self.now.setting.has_threads }
+        requires seat { owing.table ≡ self.now }
         ensures rows { MatchResult result (λ done. IsWakened owing handoff done.0 done.1)
             (λ refused. StillOwes owing refused) }
         ensures caller { MatchResult result (λ done. WakesFirst owing handoff done.0 done.1)
@@ -112,7 +114,8 @@ impl SemaTable {
         &self,
         owing: OwingMany,
     ) -> Result<(Seat, WokenSeats), OwingMany>
-        requires { owing.table ≡ self.now }
+        requires kernel { N.serves self.now.setting.has_threads }
+        requires seat { owing.table ≡ self.now }
         ensures rows { MatchResult result (λ done. IsWokenSeats owing done.0 done.1.items)
             (λ refused. StillOwesMany owing refused) }
         ensures caller { MatchResult result (λ done. WakesThese owing done.0 done.1.items)
@@ -148,7 +151,8 @@ impl SemaTable {
 
     /// The same, where threads sleep, or none does.
     pub(crate) fn try_leave_with<N: Kernel>(&self, sleeping: Sleeping) -> Result<GaveUp, Sleeping>
-        requires { sleeping.table ≡ self.now }
+        requires kernel { N.serves self.now.setting.has_threads }
+        requires seat { sleeping.table ≡ self.now }
         ensures rows { MatchResult result (λ gave_up. Leaves sleeping gave_up)
             (λ refused. StillParked sleeping refused) }
         ensures caller { MatchResult result (λ gave_up. GivesUp sleeping gave_up)

@@ -193,7 +193,8 @@ impl SemaTable {
         call: &Acquire,
         turn: u64,
     ) -> GaveUp
-        requires { (s : Token) × HasLocked self.now s numbers (Acquiring call.now (Parked turn D2)) token
+        requires kernel { N.serves self.now.setting.has_threads }
+        requires seat { (s : Token) × HasLocked self.now s numbers (Acquiring call.now (Parked turn D2)) token
             × (s.me.0.own.knows.place ≡ Acquiring call.now (Parked turn P)) × (0 < numbers.left) }
         ensures { (s : Token) → HasLocked self.now s numbers (Acquiring call.now (Parked turn D2)) token
             → s.me.0.own.knows.place ≡ Acquiring call.now (Parked turn P)
@@ -244,7 +245,8 @@ impl SemaTable {
 
     /// D4.
     fn unlock_left<N: Kernel>(&self, token: &mut Token, call: &Acquire)
-        requires { Holds self.now token.old (Acquiring call.now D4) }
+        requires kernel { N.serves self.now.setting.has_threads }
+        requires seat { Holds self.now token.old (Acquiring call.now D4) }
         ensures { Moves token.old (Acquiring call.now D4) token.new Rest × (token.new.me.1 ≡ []) }
     {
         let word = self.lock_word(call.counter);
@@ -266,7 +268,8 @@ impl SemaTable {
 
     /// D5. Asleep again, and not at rest: the grant would be stored for the seat's next sleep.
     fn unlock_coming<N: Kernel>(&self, token: &mut Token, call: &Acquire, turn: u64)
-        requires { Holds self.now token.old (Acquiring call.now (Parked turn D5)) }
+        requires kernel { N.serves self.now.setting.has_threads }
+        requires seat { Holds self.now token.old (Acquiring call.now (Parked turn D5)) }
         ensures { Moves token.old (Acquiring call.now (Parked turn D5)) token.new
             (Acquiring call.now (Parked turn P)) × (token.new.me.1 ≡ []) }
     {

@@ -80,7 +80,7 @@ pub use laws::{law_of_the_sleepers, law_of_the_table};
 pub use many_seat::{OwingMany, PostedMany};
 pub use seat::{Leaver, Owing, Seat, Sleeping, Woken};
 pub use sema_table::SemaTable;
-pub use settings::Settings;
+pub use settings::{Settings, TableKey};
 pub use setup_error::SetupError;
 pub use task_answers::{TaskEntered, TaskGaveUp, TaskPolled, TaskPosted, TaskRefused, TaskRetried};
 pub use task_seat::{TaskSeat, TaskStage};

@@ -6,13 +6,13 @@ ghost use Rattle.sema_table.specs.Setting.{apart};
 ghost use Rattle.running_rows.specs.Rule.{fresh_seat};
 ghost use Rattle.sema_table.specs.Rows.{semaphore_rows};
 ghost use Rattle.sema_table.specs.Seats.{table_of};
-ghost use Rattle.sema_table.specs.Making.{AreAllowed, IsRefused, MaySpend, IsMade, new_root, new_roots};
+ghost use Rattle.sema_table.specs.Making.{AreAllowed, IsRefused, MaySpend, IsMade, IsMadeWith, new_root, new_roots};
 ghost use Rattle.sema_table.specs.Making as making;
 
 use crate::rows::Token;
 use crate::seat::{Numbers, Seat};
 use crate::sema_table::SemaTable;
-use crate::settings::Settings;
+use crate::settings::{Settings, TableKey};
 use crate::setup_error::SetupError;
 use crate::view::Record;
 use running_rows::Running;
@@ -122,16 +122,17 @@ fn empty_roots(alloc: Global, seats: u32, roots: u32, seed: u64) -> Result<Vec<R
 }
 
 /// A table and its seats, in the order of their numbers.
-fn make(alloc: Global, settings: &Settings) -> Result<(SemaTable, Vec<Seat>), NoMemory>
-    requires { AreAllowed settings.now }
-    ensures { IfOk result (λ t. IsMade settings.now t.0 t.1.items) }
+fn make(alloc: Global, key: &TableKey) -> Result<(SemaTable, Vec<Seat>), NoMemory>
+    requires { AreAllowed key.now.settings }
+    ensures { IfOk result (λ t. IsMadeWith key.now t.0 t.1.items) }
 {
+    let settings = &key.settings;
     let seats = settings.seats;
     let limit = settings.release_limit;
     let numbers = first_words(alloc, settings)?;
     let slots = empty_roots(alloc, seats, settings.roots, settings.seed)?;
     let mut made = Vec::with_capacity(alloc, seats as usize)?;
-    let Ok((words, mut first)) = Running::new(alloc, numbers.as_slice(), slots, settings) else {
+    let Ok((words, mut first)) = Running::new(alloc, numbers.as_slice(), slots, key) else {
         return Err(NoMemory);
     };
     for number in 1..seats {
@@ -151,6 +152,19 @@ fn make(alloc: Global, settings: &Settings) -> Result<(SemaTable, Vec<Seat>), No
     Ok((table, made))
 }
 
+/// A table of such words, and its seats in the order of their numbers.
+pub(crate) fn make_with(alloc: Global, key: TableKey) -> Result<(SemaTable, Vec<Seat>), SetupError>
+    ensures ok { IfOk result (λ t. IsMadeWith key t.0 t.1.items) }
+    ensures own { IfOk result (λ t. All (λ s. s.table ≡ t.0) t.1.items) }
+    ensures err { IfErr result (λ refused. IsRefused key.settings refused) }
+{
+    check(&key.settings)?;
+    match make(alloc, &key) {
+        Ok(made) => Ok(made),
+        Err(NoMemory) => Err(SetupError::NoMemory),
+    }
+}
+
 impl SemaTable {
     /// A table with these settings, and its seats in the order of their numbers. An error has made nothing:
     /// settings out of their limits, or no memory for what they ask.
@@ -159,10 +173,12 @@ impl SemaTable {
         ensures own { IfOk result (λ t. All (λ s. s.table ≡ t.0) t.1.items) }
         ensures err { IfErr result (λ refused. IsRefused settings refused) }
     {
-        check(&settings)?;
-        match make(alloc, &settings) {
-            Ok(made) => Ok(made),
-            Err(NoMemory) => Err(SetupError::NoMemory),
-        }
+        make_with(
+            alloc,
+            TableKey {
+                settings,
+                has_threads: true,
+            },
+        )
     }
 }

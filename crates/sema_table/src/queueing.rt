@@ -63,7 +63,8 @@ impl SemaTable {
         numbers: Numbers,
         call: &Acquire,
     ) -> Entered
-        requires { (s : Token) × HasLocked self.now s numbers (Acquiring call.now A3) token }
+        requires kernel { N.serves self.now.setting.has_threads }
+        requires seat { (s : Token) × HasLocked self.now s numbers (Acquiring call.now A3) token }
         ensures { (s : Token) → HasLocked self.now s numbers (Acquiring call.now A3) token
             → IsEntered (seat_of s numbers) call.now (Acquiring call.now A3) result }
     {
@@ -166,7 +167,8 @@ impl SemaTable {
 
     /// A9.
     fn unlock_taken<N: Kernel>(&self, token: &mut Token, call: &Acquire)
-        requires { Holds self.now token.old (Acquiring call.now A9) }
+        requires kernel { N.serves self.now.setting.has_threads }
+        requires seat { Holds self.now token.old (Acquiring call.now A9) }
         ensures { Moves token.old (Acquiring call.now A9) token.new Rest × (token.new.me.1 ≡ []) }
     {
         let word = self.lock_word(call.counter);
@@ -177,6 +179,7 @@ impl SemaTable {
     /// A7. Queued in the hold of the lock in which 0 was read: a release that saw the waiter word waits for
     /// this lock, and finds the wait.
     fn queue<N: Kernel>(&self, token: &mut Token, call: &Acquire, wait: waiters::Wait)
+        requires kernel { N.serves self.now.setting.has_threads }
         requires seat { Stands self.now token.old (Acquiring call.now A7)
             × HasRecord token.old call.now.counter
             × HasRoom token.old call.now.counter }

@@ -2,7 +2,7 @@
 ghost use Rattle.sema_table.specs.Rows.{semaphore_rows};
 ghost use Rattle.sema_table.specs.Starts.{at_try, at_add, at_add_many, at_stay, at_said};
 
-use crate::settings::Settings;
+use crate::settings::TableKey;
 use crate::stride::Stride;
 use crate::view::{Known, Record};
 use running_rows::{Rows, Start};
@@ -13,7 +13,7 @@ pub struct Semaphores;
 /// A seat of the table's words.
 pub type Token = running_rows::Token<Record, Known, Stride>;
 
-impl Rows<Record, Known, Stride, Settings> for Semaphores {
+impl Rows<Record, Known, Stride, TableKey> for Semaphores {
     ghost family = { semaphore_rows };
 }
 

@@ -6,7 +6,7 @@ ghost use Rattle.sema_table.specs.Setting.{sleepers_address};
 
 use crate::make::MAX_ROOTS;
 use crate::rows::Semaphores;
-use crate::settings::Settings;
+use crate::settings::TableKey;
 use crate::stride::Stride;
 use crate::view::{Known, Record};
 use running_rows::{OneWorld, Running, View};
@@ -17,7 +17,7 @@ use waiters::CounterId;
 /// in an `Arc`.
 #[derive(Drop)]
 pub struct SemaTable {
-    pub(crate) words: Running<Record, View<Known, Stride>, Settings, OneWorld<Semaphores>>,
+    pub(crate) words: Running<Record, View<Known, Stride>, TableKey, OneWorld<Semaphores>>,
     pub(crate) counters: u32,
     pub(crate) roots: u32,
     pub(crate) seats: u32,

@@ -13,3 +13,11 @@ pub struct Settings {
     /// that it adds, and one for each wait that it takes out of its queue.
     pub release_limit: u64,
 }
+
+/// What the words of a table are made with.
+#[derive(Drop)]
+pub struct TableKey {
+    pub settings: Settings,
+    /// Whether threads sleep at them: at a table for tasks none does.
+    pub has_threads: bool,
+}

@@ -10,9 +10,10 @@ ghost use Rattle.sema_table.specs.Tasks.{ReadsByTask, CountsByTask, TriesByTask,
 ghost use Rattle.sema_table.specs.Tasks.{Unfit};
 
 use crate::answers::Tried;
+use crate::make::make_with;
 use crate::seat::Seat;
 use crate::sema_table::SemaTable;
-use crate::settings::Settings;
+use crate::settings::{Settings, TableKey};
 use crate::setup_error::SetupError;
 use crate::task_answers::{TaskPosted, TaskRefused};
 use crate::task_seat::{Stage, TaskSeat};
@@ -28,11 +29,14 @@ pub struct TaskTable {
 }
 
 impl Model for TaskTable {
+    ghost use Rattle.std.specs.Prelude.{◌≡◌, false};
     ghost use Rattle.sema_table.specs.Seats.{TableModel};
 
     ghost Value = { TableModel };
 
     ghost view = { λ t. t.table };
+
+    ghost invariant = { λ t. t.table.setting.has_threads ≡ false };
 }
 
 /// Each seat as a task's.
@@ -54,7 +58,11 @@ impl TaskTable {
         ensures own { IfOk result (λ t. All (λ s. s.seat.table ≡ t.0) t.1.items) }
         ensures err { IfErr result (λ refused. IsRefused settings refused) }
     {
-        let (table, seats) = SemaTable::new(alloc, settings)?;
+        let key = TableKey {
+            settings,
+            has_threads: false,
+        };
+        let (table, seats) = make_with(alloc, key)?;
         match resting_seats(alloc, seats) {
             Ok(seats) => Ok((TaskTable { table }, seats)),
             Err(AllocError) => Err(SetupError::NoMemory),

@@ -10,6 +10,7 @@ pub struct Setting {
     pub seats: u64,
     pub limit: u64,
     pub seed: u64,
+    pub has_threads: bool,
 }
 
 /// What a seat knows. No value of it is made.

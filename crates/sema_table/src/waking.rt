@@ -77,7 +77,8 @@ impl SemaTable {
         numbers: Numbers,
         call: &Release,
     ) -> (Seat, Wake)
-        requires { (s : Token) × HasLocked self.now s numbers (Releasing call.now R3) token }
+        requires kernel { N.serves self.now.setting.has_threads }
+        requires seat { (s : Token) × HasLocked self.now s numbers (Releasing call.now R3) token }
         ensures { (s : Token) → HasLocked self.now s numbers (Releasing call.now R3) token
             → WakesFrom (seat_of s numbers) call.now result.0 result.1 }
     {
@@ -151,7 +152,8 @@ impl SemaTable {
 
     /// R6. Given back before the waiter is told: told earlier, it would run into the lock that is still held.
     fn unlock_released<N: Kernel>(&self, token: &mut Token, call: &Release)
-        requires { Holds self.now token.old (Releasing call.now R6) }
+        requires kernel { N.serves self.now.setting.has_threads }
+        requires seat { Holds self.now token.old (Releasing call.now R6) }
         ensures { Moves token.old (Releasing call.now R6) token.new (unlocked token.old call.now)
             × (token.new.me.1 ≡ []) }
     {
@@ -225,6 +227,7 @@ impl SemaTable {
     /// R9 where a unit was taken for the wait in hand, and else R10: its seat is granted, and woken where its
     /// thread sleeps.
     fn grant<N: Kernel>(&self, token: &mut Token, call: &Release, id: &WaitId, handed: bool)
+        requires kernel { N.serves self.now.setting.has_threads }
         requires seat { Stands self.now token.old (granting call.now handed)
             × (token.old.me.0.own.knows.hand ≡ id.now ∷ []) }
         requires there { id.now.seat < self.now.setting.seats }

@@ -86,6 +86,7 @@ impl SemaTable {
         call: &ReleaseMany,
         hand: &mut WokenSeats,
     ) -> Seat
+        requires kernel { N.serves self.now.setting.has_threads }
         requires seat { (s : Token) × HasLocked self.now s numbers (ReleasingMany call.now M3) token }
         requires hand { (hand.old.items ≡ []) × HasUnits call.now }
         ensures { (s : Token) → HasLocked self.now s numbers (ReleasingMany call.now M3) token
@@ -156,7 +157,8 @@ impl SemaTable {
     /// M6. Given back before the first waiter is told: told earlier, it would run into the lock that is still
     /// held.
     fn unlock_many<N: Kernel>(&self, token: &mut Token, call: &ReleaseMany)
-        requires { Holds self.now token.old (ReleasingMany call.now M6) }
+        requires kernel { N.serves self.now.setting.has_threads }
+        requires seat { Holds self.now token.old (ReleasingMany call.now M6) }
         ensures walked { Moves token.old (ReleasingMany call.now M6) token.new
             (to_grant call.now token.old.me.0.own.knows.hand) }
         ensures bare { token.new.me.1 ≡ [] }
@@ -169,6 +171,7 @@ impl SemaTable {
 
     /// M7 for each wait in hand, of which these are the seats.
     fn grant_all<N: Kernel>(&self, token: &mut Token, call: &ReleaseMany, seats: &[u16])
+        requires kernel { N.serves self.now.setting.has_threads }
         requires seat { MayGrant self.now token.old call.now }
         requires seats { seats.now ≡ map (λ w. w.seat) token.old.me.0.own.knows.hand }
         requires there { All (λ w. w.seat < self.now.setting.seats) token.old.me.0.own.knows.hand }
@@ -183,6 +186,7 @@ impl SemaTable {
 
     /// M7: the seat of the first wait in hand is granted, and woken where its thread sleeps.
     fn grant_one<N: Kernel>(&self, token: &mut Token, call: &ReleaseMany, seat: u16)
+        requires kernel { N.serves self.now.setting.has_threads }
         requires seat { Stands self.now token.old (ReleasingMany call.now M7)
             × (waiter token.old.me.0.own.number token.old.me.0.own.knows.hand ≡ seat) }
         requires there { seat < self.now.setting.seats }

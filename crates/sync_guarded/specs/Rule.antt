@@ -166,6 +166,7 @@ guard_rows {T} = record {
   HasStored = λ seats call i x. ⊥;
   HasGiven = HasGiven;
   IsFutex = λ seats x. x ≡ lock_at 0 1;
+  has_threads = λ seats. true;
   MayPass = λ v. ⊥;
   fresh_is = λ seats. refl;
   nobody_is = refl;

@@ -1,7 +1,7 @@
 -- The rows of a state word: there is one history of them, each of which found the word that those before it
 -- left, and each seat has run its own of them, call after call. Nobody but a seat runs any, and there are so
 -- many seats at most.
-use Rattle.std.specs.Prelude.{◌≡◌, ℕ, ◌<◌, false, refl, List, [], ◌∷◌, length, slice_index}
+use Rattle.std.specs.Prelude.{◌≡◌, ℕ, ◌<◌, true, false, refl, List, [], ◌∷◌, length, slice_index}
 use Rattle.step_table.specs.declared.group_word.GroupWord.{GroupWord}
 use Rattle.step_table.specs.declared.standing.GroupRow.{GroupRow}
 use Rattle.step_table.specs.declared.standing.GroupRow.TheVariants.{G1, V1, V3, V4}
@@ -124,6 +124,7 @@ group_rows = record {
   HasStored = λ seats p i x. ⊥;
   HasGiven = λ p slots. ⊥;
   IsFutex = λ seats x. ⊥;
+  has_threads = λ seats. true;
   MayPass = λ v. ⊥;
   fresh_is = λ seats. refl;
   nobody_is = refl;

@@ -28,7 +28,7 @@ pub record GroupSeatModel : Type 0 where
 -- what the semaphore of a group with so many seats is made with: one counter at 0, one root, 2^40 releases a
 -- seat
 abbrev pub group_setting : ℕ → Setting
-group_setting seats = record { starts = 0 ∷ []; roots = 1; seats = seats; limit = 2 ^ 40; seed = 0 }
+group_setting seats = record { starts = 0 ∷ []; roots = 1; seats = seats; limit = 2 ^ 40; seed = 0; has_threads = true }
 
 abbrev pub IsGroupSetting : Setting → Type 0
 IsGroupSetting z = z ≡ group_setting z.seats

@@ -4,7 +4,7 @@ ghost use Rattle.std.specs.List.{range_with_len};
 ghost use Rattle.sync_parts.specs.GroupRule.{group_rows};
 ghost use Rattle.running_rows.specs.Rule.{first_view, making, fresh_seat};
 ghost use Rattle.running_rows.specs.Sitting.{lone};
-ghost use Rattle.sema_table.specs.Rule.{setting_of};
+ghost use Rattle.sema_table.specs.Rule.{for_threads, setting_of};
 ghost use Rattle.sema_table.specs.Making.{IsFromOne, most_seats};
 ghost use Rattle.sync_parts.specs.GroupSeats.{group_setting};
 ghost use Rattle.sync_parts.specs.GroupMaking.{seat_on, IsGroupMade, IsGroupRefused};
@@ -49,7 +49,7 @@ impl StateWord {
 
 /// What the semaphore of a group with so many seats is made with.
 fn settings(alloc: Global, seats: u32) -> Result<Settings, AllocError>
-    ensures { IfOk result (λ s. setting_of s ≡ group_setting seats) }
+    ensures { IfOk result (λ s. setting_of (for_threads s) ≡ group_setting seats) }
 {
     let mut starts = Vec::with_capacity(alloc, 1)?;
     starts.push_reserved(0);

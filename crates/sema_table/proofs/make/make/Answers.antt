@@ -13,7 +13,7 @@ use Rattle.sema_table.proofs.Making.{opens, words_long, one_more, in_front}
 use Rattle.sema_table.proofs.make.make.Goals as goal
 
 pub new-requires : goal.new-requires
-new-requires c = let a = c.requires in let z : Setting = setting_of c.args.settings.now in
+new-requires c = let a = c.requires in let z : Setting = setting_of c.args.key.now in
     let words = c.as_slice.ensures.value ∙ c.in_ok-numbers.ensures.words in (
       omega arith,
       subst (λ (p : List ℕ × List Record). Opens semaphore_rows z p.0 (map some p.1)) (λ i. (sym words i, sym c.in_ok-slots.ensures i))
@@ -21,7 +21,7 @@ new-requires c = let a = c.requires in let z : Setting = setting_of c.args.setti
     )
 
 pub make_seat-token-requires : goal.make_seat-token-requires
-make_seat-token-requires c = let inv = c.loop-number.invariant in let E = c.in-Ok.ensures in let z : Setting = setting_of c.args.settings.now in
+make_seat-token-requires c = let inv = c.loop-number.invariant in let E = c.in-Ok.ensures in let z : Setting = setting_of c.args.key.now in
     let made = ap (λ (m : Me). m.0.made) inv.first in let seats = ap (λ (m : Me). m.0.own.knows.setting.seats) inv.first in
     let wide = E.words in let long = ap length (c.as_slice.ensures.value ∙ c.in_ok-numbers.ensures.words) ∙ words_long z in let some = c.requires.seats in (
       omega arith,
@@ -33,7 +33,7 @@ make_seat-token-requires c = let inv = c.loop-number.invariant in let E = c.in-O
 
 pub new_seat-requires-clause-fresh : goal.new_seat-requires-clause-fresh
 new_seat-requires-clause-fresh c = let f = c.loop-number.invariant.first in let made = c.make_seat-token.ensures.made in (
-  setting_of c.args.settings.now,
+  setting_of c.args.key.now,
   ap (λ (m : Me). m.0.own) made ∙ ap (λ (m : Me). fresh_seat semaphore_rows m.0.own.knows.setting m.0.made) f,
   ap (λ (m : Me). m.1) made,
   refl,
@@ -42,7 +42,7 @@ new_seat-requires-clause-fresh c = let f = c.loop-number.invariant.first in let 
 
 pub loop-number-preserved : goal.loop-number-preserved
 loop-number-preserved c = let inv = c.loop-number.invariant in let f = inv.first in let s = c.make_seat-token.ensures in
-    let n : ℕ = c.loop-number.number in let z : Setting = setting_of c.args.settings.now in
+    let n : ℕ = c.loop-number.number in let z : Setting = setting_of c.args.key.now in
     let t : TableModel = record { id = c.in-Ok.words.table.shared.table_id; setting = z } in
     let of : table_of c.make_seat-token.result ≡ t = λ i.
     record { id = (s.own.1 ∙ inv.same) i; setting = (ap (λ (m : Me). m.0.own.knows.setting) s.made ∙ ap (λ (m : Me). m.0.own.knows.setting) f) i } in
@@ -60,10 +60,10 @@ loop-number-preserved c = let inv = c.loop-number.invariant in let f = inv.first
 
 pub new_seat-requires-2-clause-fresh : goal.new_seat-requires-2-clause-fresh
 new_seat-requires-2-clause-fresh c = let f = c.loop-number.invariant.first in
-    (setting_of c.args.settings.now, ap (λ (m : Me). m.0.own) f, ap (λ (m : Me). m.1) f, refl, (let h = c.requires.seats in omega arith))
+    (setting_of c.args.key.now, ap (λ (m : Me). m.0.own) f, ap (λ (m : Me). m.1) f, refl, (let h = c.requires.seats in omega arith))
 
 pub invariant_of-table : goal.invariant_of-table
-invariant_of-table c = let E = c.in-Ok.ensures in let z : Setting = setting_of c.args.settings.now in let key = ap setting_of E.key in record {
+invariant_of-table c = let E = c.in-Ok.ensures in let z : Setting = setting_of c.args.key.now in let key = ap setting_of E.key in record {
   counted = search rules;
   rooted = ap (λ (y : Setting). y.roots) (sym key);
   seated = ap (λ (y : Setting). y.seats) (sym key);
@@ -79,13 +79,13 @@ invariant_of-table c = let E = c.in-Ok.ensures in let z : Setting = setting_of c
 
 pub returns : goal.returns
 returns c = let inv = c.loop-number.invariant in let E = c.in-Ok.ensures in let key = ap setting_of E.key in let id = c.in-Ok.words.table.shared.table_id in
-    let t : TableModel = record { id = id; setting = setting_of c.args.settings.now } in
+    let t : TableModel = record { id = id; setting = setting_of c.args.key.now } in
     let of : table_of c.loop-number.first ≡ t = λ i. record { id = inv.same i; setting = (inv.first i).0.own.knows.setting } in
     let count = inv.count in let done = c.loop-number-test.false in record {
       allowed = c.requires;
       setting = key;
       seats_are = c.in-Ok-insert.ensures.items
-          ∙ in_front t (record { id = id; setting = setting_of c.in-Ok.words.table.shared.key }) (c.loop-number.number - 1) c.args.settings.now.seats
+          ∙ in_front t (record { id = id; setting = setting_of c.in-Ok.words.table.shared.key }) (c.loop-number.number - 1) c.args.key.now.settings.seats
           c.loop-number.made.items c.new_seat-2.result
           (ap (λ (y : Setting). record { id = id; setting = y }) (sym key)) (let h = inv.upto in omega arith) inv.made
           (c.new_seat-2.ensures ∙ ap (λ (y : TableModel). new_seat y 0) of);

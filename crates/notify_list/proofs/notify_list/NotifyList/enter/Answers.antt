@@ -4,7 +4,7 @@ use Rattle.step_table.specs.ListTable.{wait_for}
 use Rattle.notify_list.specs.Walks.{Edited}
 use Rattle.notify_list.specs.Plays.{Me}
 use Rattle.notify_list.specs.Seats.{ListModel, queue_of, guarded_of, with_queue}
-use Rattle.notify_list.proofs.Owned.{low_word, owned, lock_futex}
+use Rattle.notify_list.proofs.Owned.{low_word, owned, lock_futex, serves}
 use Rattle.notify_list.proofs.Allowing.{goes_at}
 use Rattle.notify_list.proofs.Recording.{list_edited, gives_plain, gives_edited}
 use Rattle.notify_list.proofs.Queueing.{stands_locked, stands_looked, number_looked, record_looked, has_room, seat_at_once, waited_at_once}
@@ -15,7 +15,7 @@ use Rattle.notify_list.proofs.notify_list.NotifyList.enter.Goals as goal
 
 pub load-notified-requires : goal.load-notified-requires
 load-notified-requires g c =
-    let x = c.self.inside in let s = c.requires.0 in let may = c.requires.1 in let n : ℕ = c.args.number in let t = c.args.token in
+    let x = c.self.inside in let s = c.requires.seat.0 in let may = c.requires.seat.1 in let n : ℕ = c.args.number in let t = c.args.token in
     let at = may.locked.walked.list_is ∙ may.list_is ∙ sym c.self.view_is in (
       omega arith,
       (
@@ -30,7 +30,7 @@ load-notified-requires g c =
 
 pub give_lock-requires : goal.give_lock-requires
 give_lock-requires g c =
-    let x = c.self.inside in let s = c.requires.0 in let may = c.requires.1 in let n : ℕ = c.args.number in
+    let x = c.self.inside in let s = c.requires.seat.0 in let may = c.requires.seat.1 in let n : ℕ = c.args.number in
     let word : ℕ = c.args.ticket in let H = may.holding in let t = c.args.token in let L = may.locked in
     let u = c.load-notified.new.token in let v : ℕ = c.load-notified.result in let E = c.load-notified.ensures in
     let at = (λ i. record { id = E.own i; setting = E.went.0.same.1 i }) ∙ L.walked.list_is ∙ may.list_is ∙ sym c.self.view_is in
@@ -42,9 +42,12 @@ give_lock-requires g c =
         (
           (low_word x c.self.invariant 2 (omega arith), futex.0),
           (
-            futex.1,
-            gives_plain _ u _ (stands_looked s n word H t L u v E.went E.own true yes_it) (record_looked s n word H t L u v E.went E.own) refl
-                (λ w. (record { word = refl; there = tt; can = refl; becomes = refl }, refl)),
+            serves c.self.inside c.self.view_is g.N.Kernel.serves c.requires.kernel,
+            (
+              futex.1,
+              gives_plain _ u _ (stands_looked s n word H t L u v E.went E.own true yes_it) (record_looked s n word H t L u v E.went E.own) refl
+                  (λ w. (record { word = refl; there = tt; can = refl; becomes = refl }, refl)),
+            ),
           ),
         ),
       ),
@@ -52,7 +55,7 @@ give_lock-requires g c =
 
 pub invariant_of-result : goal.invariant_of-result
 invariant_of-result g c =
-    let s = c.requires.0 in let may = c.requires.1 in let E = c.load-notified.ensures in let F = c.give_lock.ensures in
+    let s = c.requires.seat.0 in let may = c.requires.seat.1 in let E = c.load-notified.ensures in let F = c.give_lock.ensures in
     seat_at_once s c.args.number c.args.ticket may.holding c.args.token may.locked c.load-notified.new.token
     c.load-notified.result E.went E.own c.give_lock.new.token (sym c.less.ensures.less ∙ c.if-less.true) F.went F.own
 
@@ -71,14 +74,14 @@ returns-then-less-clause-caller g c s may =
 
 pub may_leave-may_leave-requires : goal.may_leave-may_leave-requires
 may_leave-may_leave-requires g c =
-    let s = c.requires.0 in let may = c.requires.1 in let n : ℕ = c.args.number in
+    let s = c.requires.seat.0 in let may = c.requires.seat.1 in let n : ℕ = c.args.number in
     let word : ℕ = c.args.ticket in let H = may.holding in let t = c.args.token in let L = may.locked in
     let u = c.load-notified.new.token in let v : ℕ = c.load-notified.result in let E = c.load-notified.ensures in
     ((λ i. record { id = E.own i; setting = E.went.0.same.1 i }) ∙ L.walked.list_is ∙ may.list_is, record_looked s n word H t L u v E.went E.own)
 
 pub insert-requires : goal.insert-requires
 insert-requires g c =
-    let s = c.requires.0 in let may = c.requires.1 in let n : ℕ = c.args.number in
+    let s = c.requires.seat.0 in let may = c.requires.seat.1 in let n : ℕ = c.args.number in
     let word : ℕ = c.args.ticket in let H = may.holding in let t = c.args.token in let L = may.locked in
     let u = c.load-notified.new.token in let v : ℕ = c.load-notified.result in let E = c.load-notified.ensures in
     let at = (λ i. record { id = E.own i; setting = E.went.0.same.1 i }) ∙ L.walked.list_is ∙ may.list_is in
@@ -89,7 +92,7 @@ insert-requires g c =
 
 pub give_lock-requires-2 : goal.give_lock-requires-2
 give_lock-requires-2 g c =
-    let x = c.self.inside in let s = c.requires.0 in let may = c.requires.1 in let n : ℕ = c.args.number in
+    let x = c.self.inside in let s = c.requires.seat.0 in let may = c.requires.seat.1 in let n : ℕ = c.args.number in
     let word : ℕ = c.args.ticket in let H = may.holding in let t = c.args.token in let L = may.locked in
     let u = c.load-notified.new.token in let v : ℕ = c.load-notified.result in let E = c.load-notified.ensures in
     let at = (λ i. record { id = E.own i; setting = E.went.0.same.1 i }) ∙ L.walked.list_is ∙ may.list_is ∙ sym c.self.view_is in
@@ -104,13 +107,16 @@ give_lock-requires-2 g c =
         (
           (low_word x c.self.invariant 2 (omega arith), futex.0),
           (
-            futex.1,
-            gives_edited _ u c.insert.new.token _ (stands_looked s n word H t L u v E.went E.own false no_it)
-                (with_queue (queue_of u ++ k ∷ []) (guarded_of u)) I refl
-                (λ w same. (
-                  record { word = refl; there = tt; can = refl; becomes = refl },
-                  (λ i. with_queue ((sym same i).queue ++ k ∷ []) (sym same i)),
-                )),
+            serves c.self.inside c.self.view_is g.N.Kernel.serves c.requires.kernel,
+            (
+              futex.1,
+              gives_edited _ u c.insert.new.token _ (stands_looked s n word H t L u v E.went E.own false no_it)
+                  (with_queue (queue_of u ++ k ∷ []) (guarded_of u)) I refl
+                  (λ w same. (
+                    record { word = refl; there = tt; can = refl; becomes = refl },
+                    (λ i. with_queue ((sym same i).queue ++ k ∷ []) (sym same i)),
+                  )),
+            ),
           ),
         ),
       ),
@@ -118,7 +124,7 @@ give_lock-requires-2 g c =
 
 pub invariant_of-result-2 : goal.invariant_of-result-2
 invariant_of-result-2 g c =
-    let s = c.requires.0 in let may = c.requires.1 in let n : ℕ = c.args.number in
+    let s = c.requires.seat.0 in let may = c.requires.seat.1 in let n : ℕ = c.args.number in
     let word : ℕ = c.args.ticket in let H = may.holding in let t = c.args.token in let L = may.locked in
     let u = c.load-notified.new.token in let v : ℕ = c.load-notified.result in let E = c.load-notified.ensures in
     let F = c.give_lock-2.ensures in

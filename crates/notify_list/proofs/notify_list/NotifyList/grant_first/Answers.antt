@@ -2,19 +2,19 @@ use Rattle.std.proofs.Common.{refl, sym, ap, ◌∙◌, arith}
 use Rattle.step_table.specs.declared.list_place.ListWord.TheVariants.{Grant}
 use Rattle.waiters.specs.declared.wait.Wait.{Wait}
 use Rattle.notify_list.specs.Seats.{ListModel}
-use Rattle.notify_list.proofs.Owned.{grant_low, owned, grant_futex}
+use Rattle.notify_list.proofs.Owned.{grant_low, owned, grant_futex, serves}
 use Rattle.notify_list.proofs.Allowing.{grants_at}
 use Rattle.notify_list.proofs.Wakening.{stands8, waiter_there, woken_first, stored_one}
 use Rattle.notify_list.proofs.notify_list.NotifyList.grant_first.Goals as goal
 
 pub asleep_word-requires : goal.asleep_word-requires
 asleep_word-requires g c =
-    let r = c.requires in let w : Wait = r.1 in let may = r.3 in let low = waiter_there c.args.self.now c.args.token.now r.0 w r.2 may r.4 in
+    let r = c.requires.seat in let w : Wait = r.1 in let may = r.3 in let low = waiter_there c.args.self.now c.args.token.now r.0 w r.2 may r.4 in
     let mine = ap (λ (y : ListModel). y.setting.seats) may.list_is in let same = r.5 in omega (arith, low, mine, same)
 
 pub grant-requires : goal.grant-requires
 grant-requires g c =
-    let x = c.self.inside in let s = c.args.token.now in let l = c.args.self.now in let r = c.requires in let w : Wait = r.1 in let may = r.3 in
+    let x = c.self.inside in let s = c.args.token.now in let l = c.args.self.now in let r = c.requires.seat in let w : Wait = r.1 in let may = r.3 in
     let low = waiter_there l s r.0 w r.2 may r.4 in let at = may.list_is ∙ sym c.self.view_is in let mine = ap (λ (y : ListModel). y.setting.seats) at in
     let same = r.5 in let word = c.grant_word.ensures in let A = c.asleep_word.ensures in
     let futex = grant_futex x c.args.seat c.self.view_is (asleep_word-requires g c.before) word A.at A.low in (
@@ -24,9 +24,12 @@ grant-requires g c =
         (
           ((let g = grant_low x c.self.invariant w.id.seat (omega (arith, mine, low)) in omega (arith, same, word)), futex.0),
           (
-            futex.1,
-            grants_at _ s.me c.grant_word.result _ (stands8 l s r.0 w r.2 may r.4) (Grant w.id.seat) 1 _ (λ g. refl) (omega (arith, same, word)) low
-                (λ e. absurd (omega (arith, word, e))),
+            serves c.self.inside c.self.view_is g.N.Kernel.serves c.requires.kernel,
+            (
+              futex.1,
+              grants_at _ s.me c.grant_word.result _ (stands8 l s r.0 w r.2 may r.4) (Grant w.id.seat) 1 _ (λ g. refl) (omega (arith, same, word)) low
+                  (λ e. absurd (omega (arith, word, e))),
+            ),
           ),
         ),
       ),

@@ -1,7 +1,7 @@
 use Rattle.std.proofs.Common.{◌≡◌, ℕ, refl, sym, ap, ◌∙◌, arith}
 use Rattle.notify_list.specs.Seats.{SeatModel, list_of}
 use Rattle.notify_list.specs.Shared.{list_by}
-use Rattle.notify_list.proofs.Owned.{low_word, owned, lock_futex}
+use Rattle.notify_list.proofs.Owned.{low_word, owned, lock_futex, serves}
 use Rattle.notify_list.proofs.Allowing.{goes_at}
 use Rattle.notify_list.proofs.Recording.{gives_plain}
 use Rattle.notify_list.proofs.Notifying.{stands4, w4, stands6, record5, seat_none, ends_none, may_grant, seat_some, ends_some}
@@ -9,7 +9,7 @@ use Rattle.notify_list.proofs.notify_list.NotifyList.grant_least.Goals as goal
 
 pub load-ticket-requires : goal.load-ticket-requires
 load-ticket-requires g c =
-    let x = c.self.inside in let s = c.requires.0 in let n : ℕ = c.requires.1 in let h : ℕ = c.requires.2 in let may = c.requires.3 in let t = c.args.token.now in let L = may.locked in
+    let x = c.self.inside in let s = c.requires.seat.0 in let n : ℕ = c.requires.seat.1 in let h : ℕ = c.requires.seat.2 in let may = c.requires.seat.3 in let t = c.args.token.now in let L = may.locked in
     let at3 = may.at in
     let at = L.walked.list_is ∙ may.list_is ∙ sym c.self.view_is in (
       omega arith,
@@ -25,7 +25,7 @@ load-ticket-requires g c =
 
 pub load-requires : goal.load-requires
 load-requires g c =
-    let x = c.self.inside in let s = c.requires.0 in let n : ℕ = c.requires.1 in let h : ℕ = c.requires.2 in let may = c.requires.3 in let t = c.args.token.now in let L = may.locked in
+    let x = c.self.inside in let s = c.requires.seat.0 in let n : ℕ = c.requires.seat.1 in let h : ℕ = c.requires.seat.2 in let may = c.requires.seat.3 in let t = c.args.token.now in let L = may.locked in
     let u = c.load-ticket.new.token in let E = c.load-ticket.ensures in
     let at3 = may.at in
     let R = w4 s n h may.seat at3 t L u c.load-ticket.result E.went E.own in
@@ -43,7 +43,7 @@ load-requires g c =
 
 pub give_lock-requires : goal.give_lock-requires
 give_lock-requires g c =
-    let x = c.self.inside in let s = c.requires.0 in let n : ℕ = c.requires.1 in let h : ℕ = c.requires.2 in let may = c.requires.3 in let t = c.args.token.now in let L = may.locked in
+    let x = c.self.inside in let s = c.requires.seat.0 in let n : ℕ = c.requires.seat.1 in let h : ℕ = c.requires.seat.2 in let may = c.requires.seat.3 in let t = c.args.token.now in let L = may.locked in
     let u = c.load-ticket.new.token in let E = c.load-ticket.ensures in
     let y = c.load.new.token in let F = c.load.ensures in let equal = c.if-load-ticket.true in
     let at3 = may.at in
@@ -57,18 +57,21 @@ give_lock-requires g c =
         (
           (low_word x c.self.invariant 2 (omega arith), futex.0),
           (
-            futex.1,
-            gives_plain _ y _ (stands6 s n h may.seat at3 t L u c.load-ticket.result E.went E.own y c.load.result F.went F.own equal)
-                (record5 s n h may.seat at3 t L u c.load-ticket.result E.went E.own y c.load.result F.went F.own) refl
-                (λ w. (record { word = refl; there = tt; can = refl; becomes = refl }, refl)),
+            serves c.self.inside c.self.view_is g.N.Kernel.serves c.requires.kernel,
+            (
+              futex.1,
+              gives_plain _ y _ (stands6 s n h may.seat at3 t L u c.load-ticket.result E.went E.own y c.load.result F.went F.own equal)
+                  (record5 s n h may.seat at3 t L u c.load-ticket.result E.went E.own y c.load.result F.went F.own) refl
+                  (λ w. (record { word = refl; there = tt; can = refl; becomes = refl }, refl)),
+            ),
           ),
         ),
       ),
     )
 
-pub grant_one-seat-requires : goal.grant_one-seat-requires
-grant_one-seat-requires g c =
-    let s = c.requires.0 in let n : ℕ = c.requires.1 in let h : ℕ = c.requires.2 in let may = c.requires.3 in let t = c.args.token.now in
+pub grant_one-seat-requires-clause-seat : goal.grant_one-seat-requires-clause-seat
+grant_one-seat-requires-clause-seat g c =
+    let s = c.requires.seat.0 in let n : ℕ = c.requires.seat.1 in let h : ℕ = c.requires.seat.2 in let may = c.requires.seat.3 in let t = c.args.token.now in
     let u = c.load-ticket.new.token in let E = c.load-ticket.ensures in let y = c.load.new.token in let F = c.load.ensures in (
       h,
       may_grant s n h may.seat may.at t may.locked u c.load-ticket.result E.went E.own y c.load.result F.went F.own c.if-load-ticket.false
@@ -86,8 +89,8 @@ returns-then-load-ticket-clause-rows g c s n h may =
     )
 
 pub returns-then-load-ticket-clause-own : goal.returns-then-load-ticket-clause-own
-returns-then-load-ticket-clause-own g c = let may = c.requires.3 in
-    ap (λ (q : SeatModel). q.list) (returns-then-load-ticket-clause-rows g c c.requires.0 c.requires.1 c.requires.2 may).0.0.same ∙ may.list_is
+returns-then-load-ticket-clause-own g c = let may = c.requires.seat.3 in
+    ap (λ (q : SeatModel). q.list) (returns-then-load-ticket-clause-rows g c c.requires.seat.0 c.requires.seat.1 c.requires.seat.2 may).0.0.same ∙ may.list_is
 
 pub returns-clause-rows : goal.returns-clause-rows
 returns-clause-rows g c s n h may =
@@ -103,5 +106,5 @@ returns-clause-rows g c s n h may =
     )
 
 pub returns-clause-own : goal.returns-clause-own
-returns-clause-own g c = let may = c.requires.3 in
-    ap (λ (q : SeatModel). q.list) (returns-clause-rows g c c.requires.0 c.requires.1 c.requires.2 may).0.0.same ∙ may.list_is
+returns-clause-own g c = let may = c.requires.seat.3 in
+    ap (λ (q : SeatModel). q.list) (returns-clause-rows g c c.requires.seat.0 c.requires.seat.1 c.requires.seat.2 may).0.0.same ∙ may.list_is

@@ -4,11 +4,11 @@ use Rattle.notify_list.proofs.Passing.{may_pass_one, may_store, granted_from}
 use Rattle.notify_list.proofs.notify_list.NotifyList.grant_one.Goals as goal
 
 pub pass-next-requires : goal.pass-next-requires
-pass-next-requires g c = (guarded_of c.args.token.now, may_pass_one c.args.self.now c.args.token.now c.requires.0 c.args.ticket c.requires.1)
+pass-next-requires g c = (guarded_of c.args.token.now, may_pass_one c.args.self.now c.args.token.now c.requires.seat.0 c.args.ticket c.requires.seat.1)
 
-pub grant_passed-requires : goal.grant_passed-requires
-grant_passed-requires g c =
-    let s = c.args.token.now in let l = c.args.self.now in let h : ℕ = c.requires.0 in let may = c.requires.1 in (
+pub grant_passed-requires-clause-seat : goal.grant_passed-requires-clause-seat
+grant_passed-requires-clause-seat g c =
+    let s = c.args.token.now in let l = c.args.self.now in let h : ℕ = c.requires.seat.0 in let may = c.requires.seat.1 in (
       h,
       may_store l s h c.args.ticket may c.pass-next.result c.pass-next.new.token
           (c.pass-next.ensures (guarded_of s) (may_pass_one l s h c.args.ticket may)),

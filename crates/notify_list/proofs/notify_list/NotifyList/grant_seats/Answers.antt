@@ -9,8 +9,8 @@ use Rattle.notify_list.proofs.notify_list.NotifyList.grant_seats.Goals as goal
 pub loop-seat-init : goal.loop-seat-init
 loop-seat-init g c = ((λ h may. woken_none c.args.self.now c.args.token.now c.args.token.now h may (refl, refl)), refl)
 
-pub grant_first-requires : goal.grant_first-requires
-grant_first-requires g c =
+pub grant_first-requires-clause-seat : goal.grant_first-requires-clause-seat
+grant_first-requires-clause-seat g c =
     let s = c.args.token.now in let t = c.loop-seat.token in let n : ℕ = c.loop-seat.seat-index in let h : ℕ = c.requires.seat.0 in
     let may = c.requires.seat.1 in let x = c.loop-seat.invariant.0 h may in
     let all : length c.args.seats.now ≡ length (stands_of s).hand = ap length c.requires.seats ∙ length-map (stands_of s).hand (λ (w : Wait). w.id.seat) in

@@ -18,8 +18,8 @@ take_lock-requires g c =
       ),
     )
 
-pub leave_locked-requires : goal.leave_locked-requires
-leave_locked-requires g c =
+pub leave_locked-requires-clause-seat : goal.leave_locked-requires-clause-seat
+leave_locked-requires-clause-seat g c =
     let s = c.parked.inside.token in let n : ℕ = c.parked.inside.number in (
       s,
       record {

@@ -1,19 +1,19 @@
 use Rattle.std.proofs.Common.{ℕ, Some, None, sym, ◌∙◌, subst, arith}
 use Rattle.notify_list.specs.Seats.{guarded_of}
 use Rattle.notify_list.specs.Records.{OwnOut}
-use Rattle.notify_list.proofs.Owned.{low_word, owned, lock_futex}
+use Rattle.notify_list.proofs.Owned.{low_word, owned, lock_futex, serves}
 use Rattle.notify_list.proofs.Answering.{is_sound}
 use Rattle.notify_list.proofs.Leaving.{list1, record1, may_forgo, list4, gives4, seat_left, left, list5, gives5, parked_again, coming}
 use Rattle.notify_list.proofs.notify_list.NotifyList.leave_locked.Goals as goal
 
 pub remove_own-requires : goal.remove_own-requires
 remove_own-requires g c =
-    let h = c.requires.1 in let s = c.requires.0 in let t = c.args.token in let n : ℕ = c.args.number in
+    let h = c.requires.seat.1 in let s = c.requires.seat.0 in let t = c.args.token in let n : ℕ = c.args.number in
     (list1 c.args.self.now s n h.parked t h.list_is h.took h.own, (guarded_of t, record1 c.args.self.now s n h.parked t h.list_is h.took h.own))
 
 pub forgo-requires : goal.forgo-requires
 forgo-requires g c =
-    let l = c.args.self.now in let s = c.requires.0 in let h = c.requires.1 in let t = c.args.token in let n : ℕ = c.args.number in let u = c.remove_own.new.token in
+    let l = c.args.self.now in let s = c.requires.seat.0 in let h = c.requires.seat.1 in let t = c.args.token in let n : ℕ = c.args.number in let u = c.remove_own.new.token in
     let word : ℕ = c.in-Some.ticket in
     let out : OwnOut t (guarded_of t) n (Some word) u
     = subst (λ k. OwnOut t (guarded_of t) k (Some word) u) c.new.ensures (c.in-Some.ensures (guarded_of t) (record1 l s n h.parked t h.list_is h.took h.own)) in
@@ -22,7 +22,7 @@ forgo-requires g c =
 pub give_lock-requires : goal.give_lock-requires
 give_lock-requires g c =
     let x = c.self.inside in
-    let l = c.args.self.now in let s = c.requires.0 in let h = c.requires.1 in let t = c.args.token in let n : ℕ = c.args.number in let u = c.remove_own.new.token in
+    let l = c.args.self.now in let s = c.requires.seat.0 in let h = c.requires.seat.1 in let t = c.args.token in let n : ℕ = c.args.number in let u = c.remove_own.new.token in
     let word : ℕ = c.in-Some.ticket in
     let out : OwnOut t (guarded_of t) n (Some word) u
     = subst (λ k. OwnOut t (guarded_of t) k (Some word) u) c.new.ensures (c.in-Some.ensures (guarded_of t) (record1 l s n h.parked t h.list_is h.took h.own)) in
@@ -33,14 +33,14 @@ give_lock-requires g c =
         owned x c.self.invariant v (list4 l s n h.parked t h.list_is h.took h.own u word out v F ∙ sym c.self.view_is),
         (
           (low_word x c.self.invariant 2 (omega arith), futex.0),
-          (futex.1, gives4 l s n h.parked t h.list_is h.took h.own u word out v F _),
+          (serves c.self.inside c.self.view_is g.N.Kernel.serves c.requires.kernel, (futex.1, gives4 l s n h.parked t h.list_is h.took h.own u word out v F _)),
         ),
       ),
     )
 
 pub invariant_of-result : goal.invariant_of-result
 invariant_of-result g c =
-    let l = c.args.self.now in let s = c.requires.0 in let h = c.requires.1 in let t = c.args.token in let n : ℕ = c.args.number in let u = c.remove_own.new.token in
+    let l = c.args.self.now in let s = c.requires.seat.0 in let h = c.requires.seat.1 in let t = c.args.token in let n : ℕ = c.args.number in let u = c.remove_own.new.token in
     let word : ℕ = c.in-Some.ticket in
     let out : OwnOut t (guarded_of t) n (Some word) u
     = subst (λ k. OwnOut t (guarded_of t) k (Some word) u) c.new.ensures (c.in-Some.ensures (guarded_of t) (record1 l s n h.parked t h.list_is h.took h.own)) in
@@ -62,7 +62,7 @@ returns-in-Some-clause-lawful g c = (is_sound c.give_lock.new.token c.args.numbe
 pub give_lock-requires-2 : goal.give_lock-requires-2
 give_lock-requires-2 g c =
     let x = c.self.inside in
-    let l = c.args.self.now in let s = c.requires.0 in let h = c.requires.1 in let t = c.args.token in let n : ℕ = c.args.number in let u = c.remove_own.new.token in
+    let l = c.args.self.now in let s = c.requires.seat.0 in let h = c.requires.seat.1 in let t = c.args.token in let n : ℕ = c.args.number in let u = c.remove_own.new.token in
     let out : OwnOut t (guarded_of t) n None u
     = subst (λ k. OwnOut t (guarded_of t) k None u) c.new.ensures (c.in_default.ensures (guarded_of t) (record1 l s n h.parked t h.list_is h.took h.own)) in
     let futex = lock_futex x c.self.view_is c.sleepers_word-2.ensures.at c.sleepers_word-2.ensures.low in (
@@ -71,14 +71,14 @@ give_lock-requires-2 g c =
         owned x c.self.invariant u (list5 l s n h.parked t h.list_is h.took h.own u out ∙ sym c.self.view_is),
         (
           (low_word x c.self.invariant 2 (omega arith), futex.0),
-          (futex.1, gives5 l s n h.parked t h.list_is h.took h.own u out _),
+          (serves c.self.inside c.self.view_is g.N.Kernel.serves c.requires.kernel, (futex.1, gives5 l s n h.parked t h.list_is h.took h.own u out _)),
         ),
       ),
     )
 
 pub invariant_of-result-2 : goal.invariant_of-result-2
 invariant_of-result-2 g c =
-    let l = c.args.self.now in let s = c.requires.0 in let h = c.requires.1 in let t = c.args.token in let n : ℕ = c.args.number in let u = c.remove_own.new.token in
+    let l = c.args.self.now in let s = c.requires.seat.0 in let h = c.requires.seat.1 in let t = c.args.token in let n : ℕ = c.args.number in let u = c.remove_own.new.token in
     let out : OwnOut t (guarded_of t) n None u
     = subst (λ k. OwnOut t (guarded_of t) k None u) c.new.ensures (c.in_default.ensures (guarded_of t) (record1 l s n h.parked t h.list_is h.took h.own)) in
     parked_again l s n h.parked t h.list_is h.took h.own u out c.give_lock-2.new.token c.give_lock-2.ensures.went c.give_lock-2.ensures.own

@@ -11,8 +11,8 @@ lock-requires g c = let s = c.seat.inside.token in let n : ℕ = c.seat.inside.n
     may_lock s n c.requires.place.0 c.seat.invariant (ap (λ (y : SeatModel). y.sight.stands.place) c.seat.view_is ∙ c.requires.place.1) c.args.self.now
     (ap (λ (y : SeatModel). y.list) c.seat.view_is ∙ c.requires.seat)
 
-pub grant_least-notified-requires : goal.grant_least-notified-requires
-grant_least-notified-requires g c = (
+pub grant_least-notified-requires-clause-seat : goal.grant_least-notified-requires-clause-seat
+grant_least-notified-requires-clause-seat g c = (
   c.seat.inside.token,
   c.seat.inside.number,
   c.requires.place.0,

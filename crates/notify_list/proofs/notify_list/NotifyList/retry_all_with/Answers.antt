@@ -27,7 +27,7 @@ take_all-waits-requires g c =
     let at = ap (λ (y : SeatModel). y.list) c.owing.view_is ∙ c.requires.seat in let u = c.try_lock.new.token in let L = c.if-not-try_lock.ensures in
     let k : ℕ = c.reach_all-tickets.result in let v = c.reach_all-tickets.new.token in let may = may_reach l t n N at u L in
     let takes = may_take l u v N.h k may (empty_locked l t n N at u L) (c.reach_all-tickets.ensures N.h may) in
-    record { seat = (N.h, k, takes); room = all_fit l v N.h k takes c.args.woken.now c.requires.room }
+    record { kernel = c.requires.kernel; seat = (N.h, k, takes); room = all_fit l v N.h k takes c.args.woken.now c.requires.room }
 
 pub slice_bounds-grant_seats-end : goal.slice_bounds-grant_seats-end
 slice_bounds-grant_seats-end g c =

@@ -1,6 +1,6 @@
 use Rattle.std.proofs.Common.{map, sym, ap, ◌∙◌, arith}
 use Rattle.waiters.specs.declared.wait.Wait.{Wait}
-use Rattle.notify_list.proofs.Owned.{low_word, owned, lock_futex}
+use Rattle.notify_list.proofs.Owned.{low_word, owned, lock_futex, serves}
 use Rattle.notify_list.proofs.Recording.{list_edited}
 use Rattle.notify_list.proofs.Emptying.{gives_all, taken_all, hand_after}
 use Rattle.notify_list.proofs.notify_list.NotifyList.take_all.Goals as goal
@@ -19,8 +19,11 @@ give_lock-requires g c =
         (
           (low_word x c.self.invariant 2 (omega arith), futex.0),
           (
-            futex.1,
-            gives_all c.args.self.now s c.requires.seat.0 c.requires.seat.1 may _ c.remove_all-waits.new.token E,
+            serves c.self.inside c.self.view_is g.N.Kernel.serves c.requires.kernel,
+            (
+              futex.1,
+              gives_all c.args.self.now s c.requires.seat.0 c.requires.seat.1 may _ c.remove_all-waits.new.token E,
+            ),
           ),
         ),
       ),

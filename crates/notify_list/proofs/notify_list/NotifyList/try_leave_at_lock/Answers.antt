@@ -13,21 +13,21 @@ use Rattle.notify_list.proofs.notify_list.NotifyList.try_leave_at_lock.Goals as 
 pub try_lock-requires : goal.try_lock-requires
 try_lock-requires g c =
     let x = c.self.inside in let s = c.parked.inside.token in let n : ℕ = c.parked.inside.number in
-    let K = may_leave_now s n _ c.parked.invariant (subst MayLeave (sym c.parked.view_is) c.requires.1) in (
+    let K = may_leave_now s n _ c.parked.invariant (subst MayLeave (sym c.parked.view_is) c.requires.seat.1) in (
       omega arith,
       (
-        owned x c.self.invariant s (own x s n c.self.view_is c.parked.view_is c.requires.0),
+        owned x c.self.invariant s (own x s n c.self.view_is c.parked.view_is c.requires.seat.0),
         (low_word x c.self.invariant 2 (omega arith), (word_seen _ 2 tt, (at_lock x.words.table.shared.key, leave_owes c.args.self.now s n K _))),
       ),
     )
 
-pub leave_locked-requires : goal.leave_locked-requires
-leave_locked-requires g c =
+pub leave_locked-requires-clause-seat : goal.leave_locked-requires-clause-seat
+leave_locked-requires-clause-seat g c =
     let s = c.parked.inside.token in let n : ℕ = c.parked.inside.number in (
       s,
       record {
-        parked = may_leave_now s n _ c.parked.invariant (subst MayLeave (sym c.parked.view_is) c.requires.1);
-        list_is = ap (λ (y : SeatModel). y.list) c.parked.view_is ∙ c.requires.0;
+        parked = may_leave_now s n _ c.parked.invariant (subst MayLeave (sym c.parked.view_is) c.requires.seat.1);
+        list_is = ap (λ (y : SeatModel). y.list) c.parked.view_is ∙ c.requires.seat.0;
         took = c.if-try_lock.ensures.took;
         own = c.if-try_lock.ensures.own;
       },
@@ -37,8 +37,8 @@ pub returns-then-try_lock-clause-rows : goal.returns-then-try_lock-clause-rows
 returns-then-try_lock-clause-rows g c =
     let s = c.parked.inside.token in let n : ℕ = c.parked.inside.number in
     let h : HasLocked c.args.self.now s n c.try_lock.new.token = record {
-      parked = may_leave_now s n _ c.parked.invariant (subst MayLeave (sym c.parked.view_is) c.requires.1);
-      list_is = ap (λ (y : SeatModel). y.list) c.parked.view_is ∙ c.requires.0;
+      parked = may_leave_now s n _ c.parked.invariant (subst MayLeave (sym c.parked.view_is) c.requires.seat.1);
+      list_is = ap (λ (y : SeatModel). y.list) c.parked.view_is ∙ c.requires.seat.0;
       took = c.if-try_lock.ensures.took;
       own = c.if-try_lock.ensures.own;
     } in

@@ -2,8 +2,8 @@ use Rattle.std.proofs.Common.{◌∙◌}
 use Rattle.notify_list.proofs.CallersLeaving.{tries_to_give_up, tries_to_leave}
 use Rattle.notify_list.proofs.notify_list.NotifyList.try_leave_with.Goals as goal
 
-pub try_leave_at_lock-requires : goal.try_leave_at_lock-requires
-try_leave_at_lock-requires g c = (c.in-Ok.ensures.caller.0.list ∙ c.requires, c.in-Ok.ensures.rows.1)
+pub try_leave_at_lock-requires-clause-seat : goal.try_leave_at_lock-requires-clause-seat
+try_leave_at_lock-requires-clause-seat g c = (c.in-Ok.ensures.caller.0.list ∙ c.requires.seat, c.in-Ok.ensures.rows.1)
 
 pub returns-in-Ok-clause-rows : goal.returns-in-Ok-clause-rows
 returns-in-Ok-clause-rows g c =

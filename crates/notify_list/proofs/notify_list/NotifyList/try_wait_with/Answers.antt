@@ -9,7 +9,7 @@ use Rattle.notify_list.proofs.notify_list.NotifyList.try_wait_with.Goals as goal
 
 pub try_lock-requires : goal.try_lock-requires
 try_lock-requires g c = let s = c.holding.inside.token in let n : ℕ = c.holding.inside.number in
-    may_wait s n c.holding.inside.ticket c.holding.invariant c.args.self.now (ap (λ (y : SeatModel). y.list) c.holding.view_is ∙ c.requires)
+    may_wait s n c.holding.inside.ticket c.holding.invariant c.args.self.now (ap (λ (y : SeatModel). y.list) c.holding.view_is ∙ c.requires.seat)
 
 pub invariant_of-result : goal.invariant_of-result
 invariant_of-result g c =

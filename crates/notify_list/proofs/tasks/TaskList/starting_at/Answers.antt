@@ -6,8 +6,8 @@ use Rattle.notify_list.specs.Seats.{SeatModel}
 use Rattle.notify_list.specs.TaskSeats.{TaskModel}
 use Rattle.notify_list.proofs.tasks.TaskList.starting_at.Goals as goal
 
-pub returns-in-Ok-resting_seats-clause-own : goal.returns-in-Ok-resting_seats-clause-own
-returns-in-Ok-resting_seats-clause-own c =
-    subst (λ (l : List TaskModel). All (λ s. s.seat.list ≡ c.in-Ok.list) l) (sym c.in-Ok-resting_seats.ensures)
-    (All-map (λ (x : TaskModel). x.seat.list ≡ c.in-Ok.list) (λ (s : SeatModel). record { seat = s; stage = Resting }) c.in-Ok.made.items
-    c.in-Ok.ensures.own)
+pub returns-in-Ok-clause-own : goal.returns-in-Ok-clause-own
+returns-in-Ok-clause-own c =
+    subst (λ (l : List TaskModel). All (λ s. s.seat.list ≡ c.in_ok-list.list) l) (sym c.in-Ok.ensures)
+    (All-map (λ (x : TaskModel). x.seat.list ≡ c.in_ok-list.list) (λ (s : SeatModel). record { seat = s; stage = Resting }) c.in_ok-list.made.items
+    c.in_ok-list.ensures.own)

@@ -31,8 +31,8 @@ returns-then-holds_own c s h parked =
     leaving_rows s t1 t2 t2 n a c.args.turn h.token_is h.locked.0
     (sought_place s t1 t2 t2 n a c.args.turn h.token_is h.locked.0 true found) e.same.0 e.same.1 parked
 
-pub unlock_coming-requires : goal.unlock_coming-requires
-unlock_coming-requires c =
+pub unlock_coming-requires-clause-seat : goal.unlock_coming-requires-clause-seat
+unlock_coming-requires-clause-seat c =
     let s = c.requires.0 in let h = c.requires.1 in let t1 = c.args.token in let t2 = c.holds_own.new.token in let n = c.args.numbers in
     let a = c.args.call.now in let e = c.if-holds_own.ensures in
     let at = sought_place s t1 t2 t2 n a c.args.turn h.token_is h.locked.0 false (e.found ∙ ap (λ k. stands_in k (lists_of t1 a.counter)) c.id.ensures) in (

@@ -26,8 +26,8 @@ pub unreachable-requires : goal.unreachable-requires
 unreachable-requires c =
     let lost : true ≡ false = sym (ap is_queued c.giving_up.invariant.midway.at) ∙ ap is_queued c.if-not-withdrew.ensures.settled.0 in absurd (cc)
 
-pub unlock_left-requires : goal.unlock_left-requires
-unlock_left-requires c =
+pub unlock_left-requires-clause-seat : goal.unlock_left-requires-clause-seat
+unlock_left-requires-clause-seat c =
     let g = c.giving_up.inside in (
       leaving_left g.token g.numbers g.call g.turn c.giving_up.invariant c.withdraw-withdrew.new.token c.if-not-withdrew.ensures.settled.0
           c.args.self.now (ap (λ (s : SeatModel). s.table) c.giving_up.view_is ∙ c.requires),

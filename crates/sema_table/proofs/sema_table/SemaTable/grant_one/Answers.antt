@@ -3,7 +3,7 @@ use Rattle.step_table.specs.declared.word.Word.TheVariants.{Grant}
 use Rattle.step_table.specs.Event.{waiter}
 use Rattle.sema_table.specs.Setting.{address}
 use Rattle.sema_table.specs.Seats.{TableModel}
-use Rattle.sema_table.proofs.Owned.{someones, grant_sleeps}
+use Rattle.sema_table.proofs.Owned.{someones, grant_sleeps, serves}
 use Rattle.sema_table.proofs.Striding.{slots_are}
 use Rattle.sema_table.proofs.GrantingMany.{granted_first, grants_first}
 use Rattle.sema_table.proofs.sema_table.SemaTable.grant_one.Goals as goal
@@ -25,8 +25,11 @@ grant-requires g c =
         (
           (omega arith, sleeps.0),
           (
-            sleeps.1,
-            grants_first _ c.self.inside.words.table.shared.table_id.slots c.grant_word-word.result s.me a r.place_is r.limited word there,
+            serves c.self.inside c.self.view_is g.N.Kernel.serves c.requires.kernel,
+            (
+              sleeps.1,
+              grants_first _ c.self.inside.words.table.shared.table_id.slots c.grant_word-word.result s.me a r.place_is r.limited word there,
+            ),
           ),
         ),
       ),

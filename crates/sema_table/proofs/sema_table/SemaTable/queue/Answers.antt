@@ -15,7 +15,7 @@ use Rattle.sema_table.proofs.Striding.{Ran}
 use Rattle.sema_table.specs.Seats.{TableModel}
 use Rattle.sema_table.specs.Walks.{Walked, parked}
 use Rattle.sema_table.proofs.Allowing.{owes_give}
-use Rattle.sema_table.proofs.Owned.{word_in, someones, lock_sleeps}
+use Rattle.sema_table.proofs.Owned.{word_in, someones, lock_sleeps, serves}
 use Rattle.sema_table.proofs.Striding.{slots_are}
 use Rattle.sema_table.proofs.Leading.{led}
 use Rattle.sema_table.proofs.Walking.{walked_row, ran_from}
@@ -61,17 +61,20 @@ give_lock-requires g c =
         (
           (omega arith, sleeps.0),
           (
-            sleeps.1,
-            subst (λ (x : Me). Owes semaphore_rows key x c.lock_word-word.result (λ _. 0)
-                (λ _ u. runs_unlock semaphore_rows (step 0 0 0 0 none) x 0 u)) (sym E.1.1)
-                (owes_give key c.lock_word-word.result m (Acquiring a A7) r.place_is (let b = r.limited in omega arith) q 0 refl
-                (λ b n known. record {
-                  fits = record { word = word; there = tt; can = refl; becomes = refl };
-                  word_is = refl;
-                  holds_it =
-                      on_here (root z a.counter) 1;
-                  is_record = told;
-                })),
+            serves c.self.inside c.self.view_is g.N.Kernel.serves c.requires.kernel,
+            (
+              sleeps.1,
+              subst (λ (x : Me). Owes semaphore_rows key x c.lock_word-word.result (λ _. 0)
+                  (λ _ u. runs_unlock semaphore_rows (step 0 0 0 0 none) x 0 u)) (sym E.1.1)
+                  (owes_give key c.lock_word-word.result m (Acquiring a A7) r.place_is (let b = r.limited in omega arith) q 0 refl
+                  (λ b n known. record {
+                    fits = record { word = word; there = tt; can = refl; becomes = refl };
+                    word_is = refl;
+                    holds_it =
+                        on_here (root z a.counter) 1;
+                    is_record = told;
+                  })),
+            ),
           ),
         ),
       ),

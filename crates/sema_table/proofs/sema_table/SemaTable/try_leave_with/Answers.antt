@@ -44,7 +44,7 @@ returns-then-not-try_lock-clause-caller g c = still_parked c.args.sleeping (seat
 pub returns-clause-rows : goal.returns-clause-rows
 returns-clause-rows g c =
     let n = c.asleep.inside in let looked = c.in-Ok.ensures.0 in let is = c.asleep.invariant in
-    let of : table_of n.token ≡ c.args.self.now = ap (λ (y : SeatModel). y.table) (c.asleep.view_is ∙ looked.3.same) ∙ c.requires in
+    let of : table_of n.token ≡ c.args.self.now = ap (λ (y : SeatModel). y.table) (c.asleep.view_is ∙ looked.3.same) ∙ c.requires.seat in
     leaves_by c.args.sleeping c.in-Ok.asleep c.leave_locked.result looked
     (subst (λ (y : SeatModel). LeavesAtLock y c.leave_locked.result) c.asleep.view_is
     (c.leave_locked.ensures n.token (record {

@@ -10,7 +10,7 @@ use Rattle.sema_table.proofs.sema_table.SemaTable.try_wake_some_with.Goals as go
 
 pub returns-clause-rows : goal.returns-clause-rows
 returns-clause-rows g c =
-    let s = c.owing.inside.token in let is = c.owing.invariant in let own = ap (λ (x : SeatModel). x.table) c.owing.view_is ∙ c.requires in
+    let s = c.owing.inside.token in let is = c.owing.invariant in let own = ap (λ (x : SeatModel). x.table) c.owing.view_is ∙ c.requires.seat in
     let o = c.wake_some_locked-seat.ensures s (record {
       token_is = is.midway.token_is;
       table_is = own;

@@ -30,14 +30,17 @@ give_lock_from-requires c =
         (
           (omega arith, sleeps.0),
           (
-            sleeps.1,
-            owes_stay _ c.lock_word-word.result s.me a c.args.turn r.place_is (let b = r.limited in omega arith) h.0 0 h.1
-                (λ b n known. record {
-                  fits = record { word = word; there = tt; can = refl; becomes = refl };
-                  word_is = refl;
-                  holds_it = on_here (root s.me.0.own.knows.setting a.counter) 1;
-                  is_record = h.2;
-                }),
+            tt,
+            (
+              sleeps.1,
+              owes_stay _ c.lock_word-word.result s.me a c.args.turn r.place_is (let b = r.limited in omega arith) h.0 0 h.1
+                  (λ b n known. record {
+                    fits = record { word = word; there = tt; can = refl; becomes = refl };
+                    word_is = refl;
+                    holds_it = on_here (root s.me.0.own.knows.setting a.counter) 1;
+                    is_record = h.2;
+                  }),
+            ),
           ),
         ),
       ),

@@ -1,7 +1,7 @@
 use Rattle.sema_table.proofs.sema_table.SemaTable.wake_at_lock.Goals as goal
 
-pub wake_locked-requires : goal.wake_locked-requires
-wake_locked-requires g c = (
+pub wake_locked-requires-clause-seat : goal.wake_locked-requires-clause-seat
+wake_locked-requires-clause-seat g c = (
   c.args.token,
   record { token_is = c.requires.seat.0; table_is = c.requires.seat.1; inside = c.requires.call.0; locked = c.lock.ensures },
 )

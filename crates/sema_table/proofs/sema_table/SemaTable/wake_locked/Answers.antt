@@ -13,19 +13,19 @@ use Rattle.sema_table.proofs.sema_table.SemaTable.wake_locked.Goals as goal
 
 pub take_first-first-requires : goal.take_first-first-requires
 take_first-first-requires g c =
-    let s = c.requires.0 in let a : Release = c.args.call.now in record {
+    let s = c.requires.seat.0 in let a : Release = c.args.call.now in record {
       seat = (
-        stands_after c.args.self.now s c.args.token c.args.numbers (Releasing a R3) (Releasing a R4) [] 0 c.requires.1.token_is c.requires.1.table_is
-            c.requires.1.inside c.requires.1.locked.0 refl,
-        c.requires.1.locked.1,
-        ap (λ (y : SeatState). y.hand) c.requires.1.locked.0.stands_is ∙ c.requires.1.token_is.empty,
+        stands_after c.args.self.now s c.args.token c.args.numbers (Releasing a R3) (Releasing a R4) [] 0 c.requires.seat.1.token_is c.requires.seat.1.table_is
+            c.requires.seat.1.inside c.requires.seat.1.locked.0 refl,
+        c.requires.seat.1.locked.1,
+        ap (λ (y : SeatState). y.hand) c.requires.seat.1.locked.0.stands_is ∙ c.requires.seat.1.token_is.empty,
       );
     }
 
 pub invariant_of-result : goal.invariant_of-result
 invariant_of-result g c =
     let a : Release = c.args.call.now in
-    nobody_seat c.requires.0 c.args.token c.take_first-first.new.token c.unlock_released.new.token c.args.numbers a c.requires.1.token_is c.requires.1.locked.0
+    nobody_seat c.requires.seat.0 c.args.token c.take_first-first.new.token c.unlock_released.new.token c.args.numbers a c.requires.seat.1.token_is c.requires.seat.1.locked.0
     c.in_default.ensures.none c.unlock_released.ensures.0 c.unlock_released.ensures.1
 
 pub returns-in_default : goal.returns-in_default
@@ -36,40 +36,40 @@ returns-in_default g c s0 h =
 
 pub take_for-handed-requires : goal.take_for-handed-requires
 take_for-handed-requires g c =
-    let s = c.requires.0 in let t1 = c.args.token in let t3 = c.unlock_released.new.token in let n = c.args.numbers in let w : WaitId = c.in-Some.id in
+    let s = c.requires.seat.0 in let t1 = c.args.token in let t3 = c.unlock_released.new.token in let n = c.args.numbers in let w : WaitId = c.in-Some.id in
     let a : Release = c.args.call.now in
-    let x = carried s t1 c.take_first-first.new.token t3 n a w c.requires.1.token_is c.requires.1.locked.0 c.in-Some.ensures.some.0 c.unlock_released.ensures.0 in (
+    let x = carried s t1 c.take_first-first.new.token t3 n a w c.requires.seat.1.token_is c.requires.seat.1.locked.0 c.in-Some.ensures.some.0 c.unlock_released.ensures.0 in (
       stands_at c.args.self.now s t3 n (Releasing a R3) (carrying s (trying a) w)
-          (Leave a.counter w t1.me.0.own.number ∷ []) 0 c.requires.1.token_is c.requires.1.table_is
-          (subst (λ k. k < length c.args.self.now.setting.starts) (sym (trying_counter a)) c.requires.1.inside) x refl,
+          (Leave a.counter w t1.me.0.own.number ∷ []) 0 c.requires.seat.1.token_is c.requires.seat.1.table_is
+          (subst (λ k. k < length c.args.self.now.setting.starts) (sym (trying_counter a)) c.requires.seat.1.inside) x refl,
       ap (λ (q : SeatState). q.hand) x.stands_is,
     )
 
 pub grant-requires-clause-seat : goal.grant-requires-clause-seat
 grant-requires-clause-seat g c =
-    let s = c.requires.0 in let t1 = c.args.token in let t3 = c.unlock_released.new.token in let n = c.args.numbers in let w : WaitId = c.in-Some.id in
+    let s = c.requires.seat.0 in let t1 = c.args.token in let t3 = c.unlock_released.new.token in let n = c.args.numbers in let w : WaitId = c.in-Some.id in
     let a : Release = c.args.call.now in
-    let x = carried s t1 c.take_first-first.new.token t3 n a w c.requires.1.token_is c.requires.1.locked.0 c.in-Some.ensures.some.0 c.unlock_released.ensures.0 in
+    let x = carried s t1 c.take_first-first.new.token t3 n a w c.requires.seat.1.token_is c.requires.seat.1.locked.0 c.in-Some.ensures.some.0 c.unlock_released.ensures.0 in
     let b : Bool = c.take_for-handed.result in let t4 = c.take_for-handed.new.token in
-    let own = c.requires.1.locked.0.number_is in
-    let y = settled s t1 t3 t4 t4 n a w b c.requires.1.token_is own x c.take_for-handed.ensures.walked in (
+    let own = c.requires.seat.1.locked.0.number_is in
+    let y = settled s t1 t3 t4 t4 n a w b c.requires.seat.1.token_is own x c.take_for-handed.ensures.walked in (
       stands_at c.args.self.now s t4 n (Releasing a R3) (carrying s (granting a b) w)
-          (Leave a.counter w t1.me.0.own.number ∷ taken_for a w b) 0 c.requires.1.token_is c.requires.1.table_is
-          (subst (λ k. k < length c.args.self.now.setting.starts) (sym (granting_counter a b)) c.requires.1.inside) y
-          (none_spent s t1 t3 t4 t4 n a w b c.requires.1.token_is own x c.take_for-handed.ensures.walked b),
+          (Leave a.counter w t1.me.0.own.number ∷ taken_for a w b) 0 c.requires.seat.1.token_is c.requires.seat.1.table_is
+          (subst (λ k. k < length c.args.self.now.setting.starts) (sym (granting_counter a b)) c.requires.seat.1.inside) y
+          (none_spent s t1 t3 t4 t4 n a w b c.requires.seat.1.token_is own x c.take_for-handed.ensures.walked b),
       ap (λ (q : SeatState). q.hand) y.stands_is,
     )
 
 pub invariant_of-result-then-handed : goal.invariant_of-result-then-handed
 invariant_of-result-then-handed g c =
-    let s = c.requires.0 in let t1 = c.args.token in let t3 = c.unlock_released.new.token in let n = c.args.numbers in let w : WaitId = c.in-Some.id in
+    let s = c.requires.seat.0 in let t1 = c.args.token in let t3 = c.unlock_released.new.token in let n = c.args.numbers in let w : WaitId = c.in-Some.id in
     let a : Release = c.args.call.now in
-    let x = carried s t1 c.take_first-first.new.token t3 n a w c.requires.1.token_is c.requires.1.locked.0 c.in-Some.ensures.some.0 c.unlock_released.ensures.0 in
+    let x = carried s t1 c.take_first-first.new.token t3 n a w c.requires.seat.1.token_is c.requires.seat.1.locked.0 c.in-Some.ensures.some.0 c.unlock_released.ensures.0 in
     let b : Bool = c.take_for-handed.result in let t4 = c.take_for-handed.new.token in
-    let own = c.requires.1.locked.0.number_is in
-    let y = settled s t1 t3 t4 t4 n a w b c.requires.1.token_is own x c.take_for-handed.ensures.walked in
+    let own = c.requires.seat.1.locked.0.number_is in
+    let y = settled s t1 t3 t4 t4 n a w b c.requires.seat.1.token_is own x c.take_for-handed.ensures.walked in
     let t5 = c.grant.new.token in let bare = c.grant.ensures.slots ∙ c.take_for-handed.ensures.slots ∙ c.unlock_released.ensures.1 in
-    granted_seat s t1 t3 t4 t5 n a w b c.requires.1.token_is own x c.take_for-handed.ensures.walked c.grant.ensures.granted bare
+    granted_seat s t1 t3 t4 t5 n a w b c.requires.seat.1.token_is own x c.take_for-handed.ensures.walked c.grant.ensures.granted bare
 
 pub returns-then-handed : goal.returns-then-handed
 returns-then-handed g c s0 h =
@@ -88,14 +88,14 @@ returns-then-handed g c s0 h =
 
 pub invariant_of-result-2 : goal.invariant_of-result-2
 invariant_of-result-2 g c =
-    let s = c.requires.0 in let t1 = c.args.token in let t3 = c.unlock_released.new.token in let n = c.args.numbers in let w : WaitId = c.in-Some.id in
+    let s = c.requires.seat.0 in let t1 = c.args.token in let t3 = c.unlock_released.new.token in let n = c.args.numbers in let w : WaitId = c.in-Some.id in
     let a : Release = c.args.call.now in
-    let x = carried s t1 c.take_first-first.new.token t3 n a w c.requires.1.token_is c.requires.1.locked.0 c.in-Some.ensures.some.0 c.unlock_released.ensures.0 in
+    let x = carried s t1 c.take_first-first.new.token t3 n a w c.requires.seat.1.token_is c.requires.seat.1.locked.0 c.in-Some.ensures.some.0 c.unlock_released.ensures.0 in
     let b : Bool = c.take_for-handed.result in let t4 = c.take_for-handed.new.token in
-    let own = c.requires.1.locked.0.number_is in
-    let y = settled s t1 t3 t4 t4 n a w b c.requires.1.token_is own x c.take_for-handed.ensures.walked in
+    let own = c.requires.seat.1.locked.0.number_is in
+    let y = settled s t1 t3 t4 t4 n a w b c.requires.seat.1.token_is own x c.take_for-handed.ensures.walked in
     let t5 = c.grant.new.token in let bare = c.grant.ensures.slots ∙ c.take_for-handed.ensures.slots ∙ c.unlock_released.ensures.1 in
-    granted_seat s t1 t3 t4 t5 n a w b c.requires.1.token_is own x c.take_for-handed.ensures.walked c.grant.ensures.granted bare
+    granted_seat s t1 t3 t4 t5 n a w b c.requires.seat.1.token_is own x c.take_for-handed.ensures.walked c.grant.ensures.granted bare
 
 pub returns : goal.returns
 returns g c s0 h =

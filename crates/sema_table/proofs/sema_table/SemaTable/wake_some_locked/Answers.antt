@@ -23,8 +23,8 @@ take_waits-requires-clause-seat g c = let a : ReleaseMany = c.args.call.now in (
   ap (λ (y : SeatState). y.hand) c.requires.seat.1.locked.0.stands_is ∙ c.requires.seat.1.token_is.empty,
 )
 
-pub unlock_many-requires : goal.unlock_many-requires
-unlock_many-requires g c =
+pub unlock_many-requires-clause-seat : goal.unlock_many-requires-clause-seat
+unlock_many-requires-clause-seat g c =
     let a : ReleaseMany = c.args.call.now in let t1 = c.args.token in let t2 = c.take_waits.new.token in
     let locked = stands_after c.args.self.now c.requires.seat.0 t1 c.args.numbers (ReleasingMany a M3) (ReleasingMany a M4) [] 0 c.requires.seat.1.token_is c.requires.seat.1.table_is
     c.requires.seat.1.inside c.requires.seat.1.locked.0 refl in (

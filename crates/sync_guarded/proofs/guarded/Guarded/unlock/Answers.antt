@@ -9,7 +9,7 @@ give_lock-requires g c = let words = c.self.invariant.words in (
   omega arith,
   (
     (ap (λ (x : GuardedModel). x.id) c.requires.own ∙ sym (ap (λ (x : GuardedModel). x.id) c.self.view_is), c.requires.some),
-    ((omega arith, omega arith), (refl, unlock_owes _ 0 c.args.token.now.me c.requires.holds c.requires.out.0 c.requires.out.1)),
+    ((omega arith, omega arith), (tt, (refl, unlock_owes _ 0 c.args.token.now.me c.requires.holds c.requires.out.0 c.requires.out.1))),
   ),
 )
 

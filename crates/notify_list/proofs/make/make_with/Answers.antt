@@ -1,9 +1,9 @@
 use Rattle.std.proofs.Common.{rules}
 use Rattle.notify_list.proofs.Making.{seats_own}
-use Rattle.notify_list.proofs.notify_list.NotifyList.starting_at.Goals as goal
+use Rattle.notify_list.proofs.make.make_with.Goals as goal
 
 pub returns-in-Ok-clause-own : goal.returns-in-Ok-clause-own
-returns-in-Ok-clause-own c = seats_own _ _ _ _ c.in-Ok.ensures
+returns-in-Ok-clause-own c = seats_own _ _ _ c.in-Ok.ensures
 
 pub make-requires : goal.make-requires
 make-requires c = search rules

@@ -2,7 +2,7 @@ use Rattle.std.proofs.Common.{◌∙◌, refl}
 use mathlib.Core.Option.{none}
 use Rattle.atomic_table.specs.Table.{step}
 use Rattle.running_rows.proofs.Holding.{allowed_try}
-use Rattle.running_rows.proofs.locks.Running+S+View+V+T+K+OneWorld+R.try_later.Goals as goal
+use Rattle.running_rows.proofs.tries.Running+S+View+V+T+K+OneWorld+R.try_later.Goals as goal
 
 pub compare_exchange-requires : goal.compare_exchange-requires
 compare_exchange-requires g c = (

@@ -4,7 +4,7 @@ use prog.Atomic.{either}
 use Rattle.atomic_table.specs.Table.{step}
 use Rattle.running_rows.specs.Strides.{runs_lock, runs_lock_or_look, Took}
 use Rattle.running_rows.proofs.Holding.{lock_leaves, allowed_since, owes_lock_or_look}
-use Rattle.running_rows.proofs.locks.Running+S+View+V+T+K+OneWorld+R.try_lock_for.Goals as goal
+use Rattle.running_rows.proofs.tries.Running+S+View+V+T+K+OneWorld+R.try_lock_for.Goals as goal
 
 pub compare_exchange_with-requires : goal.compare_exchange_with-requires
 compare_exchange_with-requires g c = let same = c.loop.invariant in (
