@@ -9,7 +9,7 @@ use crate::invocation::{Invocation, MAX_LINES, MAX_THREADS, MAX_WORLDS};
 use clap::ArgMatches;
 use explorer_answers::Extras;
 use explorer_commands::{
-    Command, Layout, MAX_ROUNDS, MAX_WORKERS, ProgramCommand, ScenarioCommand,
+    Command, Layout, MAX_ROUNDS, MAX_WORKERS, ProgramCommand, ScenarioCommand, Wanted,
 };
 use journal::Demands;
 use scenario_search::{Bounds, CHECKED_WORLDS, EXPLORED_WORLDS, MAX_DEPTH, variant_named};
@@ -154,6 +154,14 @@ fn layout_of(given: &ArgMatches<'_>) -> Layout {
     }
 }
 
+/// For which dead ends a lock program is searched.
+fn wanted_of(given: &ArgMatches<'_>) -> Wanted {
+    Wanted {
+        no_end: given.get_flag("ends"),
+        lost: given.get_flag("lost"),
+    }
+}
+
 /// What `try` is asked for.
 fn try_asked<'w>(given: &ArgMatches<'w>) -> Invocation<'w>
     ensures limits { IsWithinLimits result }
@@ -163,6 +171,7 @@ fn try_asked<'w>(given: &ArgMatches<'w>) -> Invocation<'w>
     Invocation::OfText {
         command: Command::OnProgram(ProgramCommand::Try {
             worlds: worlds_of(given, CHECKED_WORLDS),
+            wanted: wanted_of(given),
             layout: layout_of(given),
             counted: given.get_flag("stats"),
             live: given.get_flag("progress"),

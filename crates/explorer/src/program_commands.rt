@@ -31,6 +31,18 @@ const TRY_ARGUMENTS: &[Argument] = &[
         help: "The most worlds, 1 to 1,000,000,000; without it 2,000,000",
     },
     Argument {
+        name: "ends",
+        is_named: true,
+        takes: FLAG,
+        help: "Where nothing is bad, look for a world from which it can't be ended",
+    },
+    Argument {
+        name: "lost",
+        is_named: true,
+        takes: FLAG,
+        help: "Where nothing is bad, look for a world in which a seat can never step again",
+    },
+    Argument {
         name: "table",
         is_named: true,
         takes: FLAG,

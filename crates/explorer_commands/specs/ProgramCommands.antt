@@ -26,6 +26,10 @@ use Rattle.program.specs.Text.{IsFaultOf, IsProgramOf}
 use Rattle.program_retrace.specs.declared.retold.Ending.{Ending}
 use Rattle.program_retrace.specs.declared.retold.Ending.TheVariants.{World, Refused}
 use Rattle.program_retrace.specs.Ends.{EndsBy}
+use Rattle.liveness.specs.declared.dead_end.FirstDeadEnd.{FirstDeadEnd}
+use Rattle.liveness.specs.declared.dead_end.Wanted.{Wanted}
+use Rattle.liveness.specs.DeadEndText.{dead_end_text}
+use Rattle.program_search.specs.DeadEnds.{IsFirstDeadEnd, NeverDeadEnds}
 use Rattle.program_search.specs.Tried.{IsTried}
 use Rattle.program_steps.specs.declared.bad_kind.BadKind.{BadKind}
 use Rattle.program_steps.specs.KindText.{kind_text}
@@ -68,26 +72,54 @@ worlds_of (finds.Bad schedule kind) = None
 worlds_of (finds.None worlds deepest) = Some worlds
 worlds_of (finds.GaveUp complete) = None
 
--- how a world is bad, and the schedule that leads there
-abbrev pub bad_text : List ℕ → BadKind → List ℕ
+-- how it is bad, which has this text, and the schedule that leads there
+abbrev pub bad_text : List ℕ → List ℕ → List ℕ
 bad_text schedule kind =
-    codes "bad: " ++ (kind_text kind ++ (codes "\nschedule: " ++ seats_text schedule ++ codes "\n"))
+    codes "bad: " ++ (kind ++ (codes "\nschedule: " ++ seats_text schedule ++ codes "\n"))
 
 -- what is found, where so many worlds may be kept at most, and so many are reached
 abbrev pub tried_text : ℕ → Option ℕ → FoundInAll BadKind → List ℕ
-tried_text most worlds (finds.Bad schedule kind) = bad_text schedule.items kind
+tried_text most worlds (finds.Bad schedule kind) = bad_text schedule.items (kind_text kind)
 tried_text most worlds (finds.None all deepest) = none_text worlds deepest
 tried_text most worlds (finds.GaveUp complete) = gave_up_text most complete
 
+-- nothing bad was found
+abbrev pub IsNone : FoundInAll BadKind → Type 0
+IsNone (finds.Bad schedule kind) = ⊥
+IsNone (finds.None worlds deepest) = ⊤
+IsNone (finds.GaveUp complete) = ⊥
+
+-- where nothing bad was found there is no dead end either; or this is the first
+abbrev pub IsNoDeadEnd : Program → Wanted → FoundInAll BadKind → Type 0
+IsNoDeadEnd program wanted found = IsNone found → NeverDeadEnds program wanted
+
+abbrev pub IsDeadEnd : Program → Wanted → FoundInAll BadKind → FirstDeadEnd → Type 0
+IsDeadEnd program wanted found dead = IsNone found × IsFirstDeadEnd program wanted dead.schedule.items dead.kind
+
 -- what is replied to a program: what is found in all schedules, among so many worlds at most, and behind a
 -- schedule that is found what it does; of that text nothing is said
-pub record RepliesTried (most : ℕ) (program : Program) (text : List ℕ) (exit : Exit) : Type 0 where
+pub record RepliesTried (most : ℕ) (wanted : Wanted) (program : Program) (text : List ℕ) (exit : Exit) : Type 0 where
   pub found : FoundInAll BadKind
   pub right : IsTried program most found
+  pub alive : IsNoDeadEnd program wanted found
   pub behind : List ℕ
   pub alone : found_in_all_schedule found ≡ None → behind ≡ []
   pub told : text ≡ tried_text most (worlds_of found) found ++ behind
   pub exit_is : exit ≡ found_in_all_exit found
+
+-- or the first dead end, where nothing is bad
+pub record RepliesDeadEnd (most : ℕ) (wanted : Wanted) (program : Program) (text : List ℕ) (exit : Exit) : Type 0 where
+  pub found : FoundInAll BadKind
+  pub right : IsTried program most found
+  pub dead : FirstDeadEnd
+  pub first : IsDeadEnd program wanted found dead
+  pub behind : List ℕ
+  pub told : text ≡ bad_text dead.schedule.items (dead_end_text dead.kind) ++ behind
+  pub exit_is : exit ≡ BadFound
+
+abbrev pub RepliesToTry : ℕ → Wanted → Program → List ℕ → Exit → Type 0
+RepliesToTry most wanted program text exit =
+    RepliesTried most wanted program text exit ⊎ RepliesDeadEnd most wanted program text exit
 
 -- ---- what a schedule does
 
@@ -112,7 +144,7 @@ RepliesRetraced spelled program text exit =
 
 -- what the command replies to a program
 abbrev pub RepliesToProgram : ProgramCommand → Program → List ℕ → Exit → Type 0
-RepliesToProgram (Try worlds layout counted live) program text exit = RepliesTried worlds program text exit
+RepliesToProgram (Try worlds wanted layout counted live) program text exit = RepliesToTry worlds wanted program text exit
 RepliesToProgram (Retrace spelled layout) program text exit = RepliesRetraced spelled.now program text exit
 
 -- what it replies to a text: its fault, or what it replies to its program

@@ -104,6 +104,7 @@ module _ (s : ProgramWorld) (i n : ℕ) where
   line_seen c (line.If e rel f to) = refl
   line_seen c (line.Goto to) = refl
   line_seen c (line.In k) = refl
+  line_seen c (line.Ask k) = refl
   line_seen c (line.Assert e rel f) = refl
   line_seen c line.Fail = refl
 
@@ -220,7 +221,7 @@ module _ (p : Program) (i : ℕ) where
     at_seen (FailedAt n why) = refl
 
   module _ (s t : ProgramWorld) (e : AreAlike s t) where
-    same_row : seen (row_of p s i) ≡ seen (row_of p t i)
+    pub same_row : seen (row_of p s i) ≡ seen (row_of p t i)
     same_row =
         at_seen s (s.seats i).stand ∙ ap (λ (w : ProgramWorld). seen (row_of p w i)) e ∙ sym (at_seen t (t.seats i).stand)
 
@@ -231,7 +232,7 @@ module _ (p : Program) (i : ℕ) where
     pub no_row : row_of p s i ≡ None → row_of p t i ≡ None
     no_row is = none_too (row_of p s i) (row_of p t i) same_row is
 
-    some_too : (did : Did) (o r : Option Did) → seen o ≡ seen r → o ≡ Some did
+    pub some_too : (did : Did) (o r : Option Did) → seen o ≡ seen r → o ≡ Some did
         → (x : Did) × (r ≡ Some x) × (erased_did did ≡ erased_did x)
     some_too did o None same is = absurd (none-some (erased_did did) (sym same ∙ ap seen is))
     some_too did o (Some x) same is = (x, refl, same_Some _ _ (sym (ap seen is) ∙ same))

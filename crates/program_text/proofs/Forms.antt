@@ -165,6 +165,7 @@ form_of verb.Let = of (Either (AreFour IsName IsOperand IsOperator IsOperand) (A
 form_of verb.If = of AreJump (λ x. line.If x.0 x.1 x.2 x.3)
 form_of verb.Goto = of (AreOne IsName) line.Goto
 form_of verb.In = of (AreOne IsName) line.In
+form_of verb.Ask = of (AreOne IsName) line.Ask
 form_of verb.Assert = of (AreThree IsOperand IsRelation IsOperand) (λ x. line.Assert x.0 x.1 x.2)
 form_of verb.Fail = of AreNone (λ x. line.Fail)
 form_of verb.Do = of (AreOne IsName) line.Do
@@ -248,6 +249,7 @@ formed words (line.All a) f s = (a, ones s (named f), refl)
 formed words (line.Out a) f s = (a, ones s (named f), refl)
 formed words (line.Goto a) f s = (a, ones s (named f), refl)
 formed words (line.In a) f s = (a, ones s (named f), refl)
+formed words (line.Ask a) f s = (a, ones s (named f), refl)
 formed words (line.Do a) f s = (a, ones s (named f), refl)
 
 -- ---- and what is read so is a line

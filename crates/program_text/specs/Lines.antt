@@ -16,7 +16,7 @@ use Rattle.program_text.specs.declared.lines.SpelledLine.TheVariants.{Program, S
 use Rattle.program_text.specs.declared.lines.SpelledLine.TheVariants.{Load, Store, Swap, Add, Exchange, Await}
 use Rattle.program_text.specs.declared.lines.SpelledLine.TheVariants.{Acquire, Release, Ticket, Wait, One, All}
 use Rattle.program_text.specs.declared.lines.SpelledLine.TheVariants.{Park, Unpark, Out, Let, Compute, If, Goto}
-use Rattle.program_text.specs.declared.lines.SpelledLine.TheVariants.{Label, In, Assert, Fail, Do, Return}
+use Rattle.program_text.specs.declared.lines.SpelledLine.TheVariants.{Label, In, Ask, Assert, Fail, Do, Return}
 use Rattle.program_text.specs.Verb.{verb_text}
 use Rattle.program_text.specs.Words.{IsNameText, number_text, HasNumberForm, operand_text, HasOperandForm}
 use Rattle.program_text.specs.Words.{place_text, HasPlaceForm, without_comment}
@@ -101,6 +101,7 @@ verb_of (Compute r e o f) = Some verb.Let
 verb_of (If e r f a) = Some verb.If
 verb_of (Goto a) = Some verb.Goto
 verb_of (In s) = Some verb.In
+verb_of (Ask s) = Some verb.Ask
 verb_of (Assert e r f) = Some verb.Assert
 verb_of Fail = Some verb.Fail
 verb_of (Do p) = Some verb.Do
@@ -141,6 +142,7 @@ arguments_of (Compute r e o f) = r ∷ operand_text e ∷ operator_text o ∷ op
 arguments_of (If e r f a) = operand_text e ∷ relation_text r ∷ operand_text f ∷ codes "goto" ∷ a ∷ []
 arguments_of (Goto a) = a ∷ []
 arguments_of (In s) = s ∷ []
+arguments_of (Ask s) = s ∷ []
 arguments_of (Assert e r f) = operand_text e ∷ relation_text r ∷ operand_text f ∷ []
 arguments_of Fail = []
 arguments_of (Do p) = p ∷ []
@@ -190,6 +192,7 @@ HasForm (Compute r e o f) = IsNameText r × HasOperandForm e × HasOperandForm f
 HasForm (If e r f a) = HasOperandForm e × HasOperandForm f × IsNameText a
 HasForm (Goto a) = IsNameText a
 HasForm (In s) = IsNameText s
+HasForm (Ask s) = IsNameText s
 HasForm (Assert e r f) = HasOperandForm e × HasOperandForm f
 HasForm Fail = ⊤
 HasForm (Do p) = IsNameText p

@@ -84,6 +84,8 @@ pub enum SpelledLine<'t> {
     Label(Name<'t>),
     /// The seat enters the section.
     In(Name<'t>),
+    /// The seat asks for the section, until it enters it.
+    Ask(Name<'t>),
     /// The seat fails unless this holds.
     Assert(SpelledOperand<'t>, Relation, SpelledOperand<'t>),
     /// The seat fails.

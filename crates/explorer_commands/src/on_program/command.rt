@@ -11,6 +11,7 @@ use explorer_answers::{
     Answered, IoFault, MOST_READ, Reply, Sink, Source, StopWatch, read_at_most, tell_reply,
 };
 use program_retrace::Layout;
+use program_search::Wanted;
 use search::Team;
 use std::alloc::Global;
 use std::thread::Threads;
@@ -19,9 +20,10 @@ use waiters::NoMemory;
 /// A command that reads the text of a lock program.
 #[derive(Clone, Copy, Debug)]
 pub enum ProgramCommand<'w> {
-    /// Searches all schedules, among so many worlds at most.
+    /// Searches all schedules, among so many worlds at most; where nothing is bad, for these dead ends.
     Try {
         worlds: u32,
+        wanted: Wanted,
         /// How the schedule that is found is told.
         layout: Layout,
         /// Beside the answer it is told how far the search came, and how long it took.
@@ -53,12 +55,14 @@ impl ProgramCommand<'_> {
         match *self {
             ProgramCommand::Try {
                 worlds,
+                wanted,
                 layout,
                 counted,
                 ..
             } => {
                 let search = Search {
                     worlds,
+                    wanted,
                     layout,
                     counted,
                 };

@@ -11,7 +11,7 @@ struct Form {
 }
 
 /// All lines but labels, in the order in which a text has them.
-static FORMS: [Form; 34] = [
+static FORMS: [Form; 35] = [
     Form {
         word: "const",
         spelled: "const N V",
@@ -95,6 +95,10 @@ static FORMS: [Form; 34] = [
     Form {
         word: "unpark",
         spelled: "unpark W e",
+    },
+    Form {
+        word: "ask",
+        spelled: "ask S",
     },
     Form {
         word: "in",

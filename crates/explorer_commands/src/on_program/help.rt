@@ -69,7 +69,7 @@ impl fmt::Display for Problem<'_> {
                 f,
                 "no line begins as \"{line}\": const, word, counter, list, register, section, program, seats, most, apart, \
                  finally, a label with a colon, or in a program load, store, swap, add, exchange, await, acquire, release, ticket, \
-                 wait, one, all, park, unpark, in, out, let, if, goto, assert, fail, do, return"
+                 wait, one, all, park, unpark, ask, in, out, let, if, goto, assert, fail, do, return"
             ),
             Problem::Scenario(line) => write!(
                 f,

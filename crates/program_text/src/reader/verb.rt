@@ -38,6 +38,7 @@ pub(crate) enum Verb {
     If,
     Goto,
     In,
+    Ask,
     Assert,
     Fail,
     Do,
@@ -45,7 +46,7 @@ pub(crate) enum Verb {
 }
 
 /// All of them.
-static VERBS: [Verb; 33] = [
+static VERBS: [Verb; 34] = [
     Verb::Const,
     Verb::Word,
     Verb::Counter,
@@ -75,6 +76,7 @@ static VERBS: [Verb; 33] = [
     Verb::If,
     Verb::Goto,
     Verb::In,
+    Verb::Ask,
     Verb::Assert,
     Verb::Fail,
     Verb::Do,
@@ -116,6 +118,7 @@ impl Verb {
             Verb::If => "if",
             Verb::Goto => "goto",
             Verb::In => "in",
+            Verb::Ask => "ask",
             Verb::Assert => "assert",
             Verb::Fail => "fail",
             Verb::Do => "do",
