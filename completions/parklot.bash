@@ -19,7 +19,7 @@ _parklot_options() {
     check) echo "$search --every --help" ;;
     explore) echo "$search --depth --variant --help" ;;
     replay) echo "--schedule --schedule-of --variant --every --table --columns --scenario --help" ;;
-    try) echo "$search --rows --help" ;;
+    try) echo "$search --rows --ends --lost --starved --passes --help" ;;
     retrace) echo "--schedule --schedule-of --rows --table --columns --help" ;;
     judge) echo "--lock --settled --most --help" ;;
     threads) echo "--workers --rounds --help" ;;

@@ -27,7 +27,7 @@ abbrev pub IsWithin : Command → Type 0
 IsWithin (OnScenario (Explore bounds table extras)) = (bounds.depth ≤ 64) × IsFromOne 1000000000 bounds.worlds
 IsWithin (OnScenario (Check worlds every extras)) = IsFromOne 1000000000 worlds
 IsWithin (OnScenario (Replay spelled table every drawn)) = Unit {0}
-IsWithin (OnProgram (Try worlds layout counted live)) = IsFromOne 1000000000 worlds
+IsWithin (OnProgram (Try worlds aims layout counted live)) = IsFromOne 1000000000 worlds
 IsWithin (OnProgram (Retrace spelled layout)) = Unit {0}
 
 -- the numbers are within the limits of their command: 1 to 64 threads share a search, 1 to 1,000,000 lines
@@ -89,7 +89,7 @@ with_schedule asked schedule = asked
 abbrev pub is_live : Command → Bool
 is_live (OnScenario (Explore bounds table extras)) = extras.live
 is_live (OnScenario (Check worlds every extras)) = extras.live
-is_live (OnProgram (Try worlds layout counted live)) = live
+is_live (OnProgram (Try worlds aims layout counted live)) = live
 is_live _ = false
 
 abbrev pub is_watched : Invocation → Bool

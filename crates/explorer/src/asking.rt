@@ -9,7 +9,7 @@ use crate::invocation::{Invocation, MAX_LINES, MAX_THREADS, MAX_WORLDS};
 use clap::ArgMatches;
 use explorer_answers::Extras;
 use explorer_commands::{
-    Command, Layout, MAX_ROUNDS, MAX_WORKERS, ProgramCommand, ScenarioCommand,
+    Aims, Command, Layout, MAX_ROUNDS, MAX_WORKERS, ProgramCommand, ScenarioCommand, Wanted,
 };
 use journal::Demands;
 use scenario_search::{Bounds, CHECKED_WORLDS, EXPLORED_WORLDS, MAX_DEPTH, variant_named};
@@ -154,6 +154,18 @@ fn layout_of(given: &ArgMatches<'_>) -> Layout {
     }
 }
 
+/// What is asked of a lock program in which nothing is bad.
+fn aims_of(given: &ArgMatches<'_>) -> Aims {
+    Aims {
+        dead_ends: Wanted {
+            no_end: given.get_flag("ends"),
+            lost: given.get_flag("lost"),
+        },
+        starved: given.get_flag("starved"),
+        passes: given.get_flag("passes"),
+    }
+}
+
 /// What `try` is asked for.
 fn try_asked<'w>(given: &ArgMatches<'w>) -> Invocation<'w>
     ensures limits { IsWithinLimits result }
@@ -163,6 +175,7 @@ fn try_asked<'w>(given: &ArgMatches<'w>) -> Invocation<'w>
     Invocation::OfText {
         command: Command::OnProgram(ProgramCommand::Try {
             worlds: worlds_of(given, CHECKED_WORLDS),
+            aims: aims_of(given),
             layout: layout_of(given),
             counted: given.get_flag("stats"),
             live: given.get_flag("progress"),

@@ -49,6 +49,7 @@ pub(crate) static LOCK_FORMAT: &str =
   seats K N             1 to 16 in all: the next K seats run program N
   most S N              the properties, at most 16: at most N seats are in section S;
   apart S T                 or: no seat is in S while another is in T;
+  passed S N                or: while a seat asks for S, others step into S at most N times, 0 to 255;
   finally W REL V           or: where all seats have ended, word or counter W REL V
 
 The lines of a program, and labels, A:. What stands in [ ] may be left out; those below out are no step:
@@ -61,7 +62,8 @@ The lines of a program, and labels, A:. What stands in [ ] may be left out; thos
   ticket L, wait L      take a ticket of list L, and wait with it
   park W e, unpark W e  sleep if W is e; wake the first e seats that sleep on W
   out S                 leave section S
-  in S, do N            enter section S; insert the lines of program N, which stands further up
+  ask S, in S           ask for section S; enter it, which ends the asking
+  do N                  insert the lines of program N, which stands further up
   let r e [OP f]        r becomes e, or e OP f; OP is + - & | ^ << >>
   if e REL f goto A     go to A if e REL f; goto A: in any case; return: go to the program's end
   assert e REL f        the seat fails unless e REL f; fail: in any case

@@ -11,7 +11,7 @@ A lock program has words and branches of its own: parklot format lock";
 
 /// The same of `retrace`.
 const RETRACE_STATUSES: &str = "\
-Status: 0 not bad, 1 the schedule ends in a bad world,
+Status: 0 not bad, 1 the schedule ends in a bad world, or a seat starves by its round,
         2 refused: words, text, schedule, one of its steps, memory, a file or a stream
 A lock program has words and branches of its own: parklot format lock";
 
@@ -29,6 +29,30 @@ const TRY_ARGUMENTS: &[Argument] = &[
         is_named: true,
         takes: WORLDS,
         help: "The most worlds, 1 to 1,000,000,000; without it 2,000,000",
+    },
+    Argument {
+        name: "ends",
+        is_named: true,
+        takes: FLAG,
+        help: "Where nothing is bad, look for a world from which it can't be ended",
+    },
+    Argument {
+        name: "lost",
+        is_named: true,
+        takes: FLAG,
+        help: "Where nothing is bad, look for a world in which a seat can never step again",
+    },
+    Argument {
+        name: "starved",
+        is_named: true,
+        takes: FLAG,
+        help: "Where nothing is bad, look for a seat that may be passed over for ever",
+    },
+    Argument {
+        name: "passes",
+        is_named: true,
+        takes: FLAG,
+        help: "Where nothing is bad, tell how often a seat that asks for a section is passed",
     },
     Argument {
         name: "table",
@@ -51,7 +75,7 @@ const RETRACE_ARGUMENTS: &[Argument] = &[
         takes: Takes::Schedule {
             other: "schedule-of",
         },
-        help: "The numbers of the seats that step, one space apart",
+        help: "The numbers of the seats that step, one space apart; a round behind them in parentheses",
     },
     Argument {
         name: "schedule-of",

@@ -5,5 +5,7 @@ pub mod Replying
 pub mod Spelling
 pub mod Replays
 pub mod FoundTexts
+pub mod Looking
 pub mod Judging
 pub mod Working
+pub mod Rounds

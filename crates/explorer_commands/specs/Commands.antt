@@ -19,7 +19,7 @@ IsWithinBounds (OnProgram command) = Unit {0}
 abbrev pub kept_by : Command → Option ℕ
 kept_by (OnScenario (Explore bounds table extras)) = Some bounds.worlds
 kept_by (OnScenario (Check worlds every extras)) = Some worlds
-kept_by (OnProgram (Try worlds layout counted live)) = Some worlds
+kept_by (OnProgram (Try worlds aims layout counted live)) = Some worlds
 kept_by _ = None
 
 -- what it replies to an input; what is told beside the answer to a lock program is free

@@ -5,6 +5,8 @@ pub mod ReplayLines
 pub mod FailedText
 pub mod ExploreText
 pub mod Replays
+pub mod OutlookTexts
+pub mod RoundText
 pub mod ProgramCommands
 pub mod Commands
 pub mod JudgeText

@@ -38,6 +38,7 @@ pub use on_scenario::command::ScenarioCommand;
 pub use once::{once_io, once_text};
 pub use once_answers::{OnceAnswers, OnceRetried, Released};
 pub use program_retrace::Layout;
+pub use program_search::{Aims, Wanted};
 pub use scenario_search::{
     Bounds, CHECKED_WORLDS, EXPLORED_WORLDS, Kind, MAX_DEPTH, Request, check, check_asked, explore,
     explore_by, explore_variant, law_of_every_property, law_of_the_classes, read_scenario,

@@ -133,7 +133,7 @@ static LOCKS: [&str; 69] = [
 ];
 
 /// The files of cases.
-static CASES: [&str; 17] = [
+static CASES: [&str; 19] = [
     "replays",
     "replays_of_lists",
     "replays_of_leaves",
@@ -151,6 +151,8 @@ static CASES: [&str; 17] = [
     "lock_faults",
     "lock_schedules",
     "lock_searches",
+    "lock_dead_ends",
+    "lock_liveness",
 ];
 
 /// Adds the words of a command. What stands in quotes is one word.

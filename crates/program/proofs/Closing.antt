@@ -66,6 +66,7 @@ further m n le (code.Out s) h = tt
 further m n le (code.Let r e) h = tt
 further m n le (code.Compute r e o f) h = tt
 further m n le (code.In s) h = tt
+further m n le (code.Ask s) h = tt
 further m n le (code.Assert e r f) h = tt
 further m n le code.Fail h = tt
 
@@ -90,6 +91,7 @@ moved_within at m n le (code.Out s) h = tt
 moved_within at m n le (code.Let r e) h = tt
 moved_within at m n le (code.Compute r e o f) h = tt
 moved_within at m n le (code.In s) h = tt
+moved_within at m n le (code.Ask s) h = tt
 moved_within at m n le (code.Assert e r f) h = tt
 moved_within at m n le code.Fail h = tt
 

@@ -6,7 +6,7 @@ use Rattle.program_text.specs.declared.words.SpelledPlace.{SpelledPlace}
 use Rattle.program_text.specs.declared.words.Number.{Number}
 use Rattle.program_text.specs.declared.lines.SpelledLine.{SpelledLine}
 use Rattle.program_text.specs.declared.lines.SpelledLine.TheVariants.{Blank, Const, Word, Counter, List as NotifyList, Registers}
-use Rattle.program_text.specs.declared.lines.SpelledLine.TheVariants.{Section, Program, Seats, Most, Apart, Finally}
+use Rattle.program_text.specs.declared.lines.SpelledLine.TheVariants.{Section, Program, Seats, Most, Apart, Passed, Finally}
 use Rattle.program.specs.declared.names.DeclaredNames.{DeclaredNames}
 use Rattle.program.specs.Statements.{statement_of}
 use Rattle.program.specs.Meanings.{meant_of}
@@ -26,6 +26,7 @@ pub record IsOther (line : SpelledLine) : Type 0 where
   pub seats : (k : Number) (n : List ℕ) → line ≡ Seats k n → ⊥
   pub most : (s : List ℕ) (n : Number) → line ≡ Most s n → ⊥
   pub apart : (s t : List ℕ) → line ≡ Apart s t → ⊥
+  pub passed : (s : List ℕ) (n : Number) → line ≡ Passed s n → ⊥
   pub finally : (w : SpelledPlace) (r : Relation) (v : SpelledOperand) → line ≡ Finally w r v → ⊥
 
 pub statement_is : (names : DeclaredNames) (ended : ℕ) (line : SpelledLine) → IsOther line
@@ -41,5 +42,6 @@ statement_is names ended (Program n) o = absurd (o.program n refl)
 statement_is names ended (Seats k n) o = absurd (o.seats k n refl)
 statement_is names ended (Most s n) o = absurd (o.most s n refl)
 statement_is names ended (Apart s t) o = absurd (o.apart s t refl)
+statement_is names ended (Passed s n) o = absurd (o.passed s n refl)
 statement_is names ended (Finally w r v) o = absurd (o.finally w r v refl)
 statement_is names ended line o = refl

@@ -88,6 +88,7 @@ same_line p codes seats properties n i h = by i h
     by (code.If e r f target) k = (operands e k.0, operands f k.1, k.2)
     by (code.Goto target) k = k
     by (code.In s) k = k
+    by (code.Ask s) k = k
     by (code.Assert e r f) k = (operands e k.0, operands f k.1)
     by code.Fail k = tt
 

@@ -48,6 +48,7 @@ moved_line p at m n le (code.Out s) h = h
 moved_line p at m n le (code.Let r e) h = h
 moved_line p at m n le (code.Compute r e o f) h = h
 moved_line p at m n le (code.In s) h = h
+moved_line p at m n le (code.Ask s) h = h
 moved_line p at m n le (code.Assert e r f) h = h
 moved_line p at m n le code.Fail h = h
 

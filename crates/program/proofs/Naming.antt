@@ -11,7 +11,7 @@ use Rattle.program_text.specs.declared.lines.SpelledShare.{SpelledShare}
 use Rattle.program_text.specs.declared.lines.SpelledShare.TheVariants as share
 use Rattle.program_text.specs.declared.lines.SpelledLine.{SpelledLine}
 use Rattle.program_text.specs.declared.lines.SpelledLine.TheVariants.{Load, Store, Swap, Add, Exchange, Await, Acquire, Release, Ticket, Wait, One, All as NotifyAll}
-use Rattle.program_text.specs.declared.lines.SpelledLine.TheVariants.{Park, Unpark, Out, Let, Compute, If, Goto, Label, In, Assert, Fail, Do, Return}
+use Rattle.program_text.specs.declared.lines.SpelledLine.TheVariants.{Park, Unpark, Out, Let, Compute, If, Goto, Label, In, Ask, Assert, Fail, Do, Return}
 use Rattle.program_code.specs.declared.instruction.Instruction.{Instruction}
 use Rattle.program_code.specs.declared.instruction.Instruction.TheVariants as code
 use Rattle.program_code.specs.declared.operand.Operand.{Operand}
@@ -159,6 +159,8 @@ seat_in d (Out s) =
     oks_map (Below (length d.names.sections)) (IsEvery (sizes d)) code.Out (section_of d.names s) (number_within d.names.sections s) (λ k h n. h)
 seat_in d (In s) =
     oks_map (Below (length d.names.sections)) (IsEvery (sizes d)) code.In (section_of d.names s) (number_within d.names.sections s) (λ k h n. h)
+seat_in d (Ask s) =
+    oks_map (Below (length d.names.sections)) (IsEvery (sizes d)) code.Ask (section_of d.names s) (number_within d.names.sections s) (λ k h n. h)
 seat_in d (Let r e) =
     oks_map (λ (x : ℕ × Operand). (x.0 < length d.names.registers) × IsOperand (sizes d) x.1) (IsEvery (sizes d)) (λ x. code.Let x.0 x.1)
     (both (register_of d.names r) (operand_of d.names e))

@@ -8,10 +8,10 @@ use Rattle.program_text.specs.declared.words.Number.TheVariants.{Plus, Minus}
 use Rattle.program_text.specs.declared.words.SpelledOperand.{SpelledOperand}
 use Rattle.program_text.specs.declared.words.SpelledOperand.TheVariants as text
 use Rattle.program_text.specs.declared.lines.SpelledLine.{SpelledLine}
-use Rattle.program_text.specs.declared.lines.SpelledLine.TheVariants.{Blank, Const, Word, Counter, List as NotifyList, Registers, Section, Program, Seats, Most, Apart}
+use Rattle.program_text.specs.declared.lines.SpelledLine.TheVariants.{Blank, Const, Word, Counter, List as NotifyList, Registers, Section, Program, Seats, Most, Apart, Passed}
 use Rattle.program_text.specs.declared.lines.SpelledLine.TheVariants.{Finally, Load, Store, Swap, Add, Exchange, Await, Acquire, Release, Ticket, Wait, One}
 use Rattle.program_text.specs.declared.lines.SpelledLine.TheVariants.{All as NotifyAll}
-use Rattle.program_text.specs.declared.lines.SpelledLine.TheVariants.{Park, Unpark, Out, Let, Compute, If, Goto, Label, In, Assert, Fail, Do, Return}
+use Rattle.program_text.specs.declared.lines.SpelledLine.TheVariants.{Park, Unpark, Out, Let, Compute, If, Goto, Label, In, Ask, Assert, Fail, Do, Return}
 use Rattle.program_code.specs.declared.instruction.Instruction.{Instruction}
 use Rattle.program_code.specs.declared.instruction.Instruction.TheVariants as code
 use Rattle.program_text.specs.declared.cause.ProgramCause.{ProgramCause}
@@ -60,6 +60,7 @@ Still i = IsTargetWithin 0 i
 still_seat : (names : DeclaredNames) (line : SpelledLine) (i : Instruction) → seat_line names line ≡ Ok i → Still i
 still_seat names (Out s) i e = made Still code.Out (section_of names s) i (λ a h. tt) e
 still_seat names (In s) i e = made Still code.In (section_of names s) i (λ a h. tt) e
+still_seat names (Ask s) i e = made Still code.Ask (section_of names s) i (λ a h. tt) e
 still_seat names (Let r f) i e = made Still (λ x. code.Let x.0 x.1) (both (register_of names r) (operand_of names f)) i (λ a h. tt) e
 still_seat names (Compute r f op g) i e =
     made Still (λ x. code.Compute x.0 x.1.0 op x.1.1) (both (register_of names r) (two_of names f g)) i (λ a h. tt) e
@@ -170,6 +171,7 @@ room d (Seats k name) m words counters short few e =
     made (FitsMeant d) (λ x. meant.Seats x.0 x.1) (both (some_of k) (program_of d.names name)) m (λ a h. tt) e
 room d (Most s n) m words counters short few e = made (FitsMeant d) meant.Property (property_of d.names (Most s n)) m (λ a h. tt) e
 room d (Apart s t) m words counters short few e = made (FitsMeant d) meant.Property (property_of d.names (Apart s t)) m (λ a h. tt) e
+room d (Passed s n) m words counters short few e = made (FitsMeant d) meant.Property (property_of d.names (Passed s n)) m (λ a h. tt) e
 room d (Finally w r v) m words counters short few e = made (FitsMeant d) meant.Property (property_of d.names (Finally w r v)) m (λ a h. tt) e
 room d line m words counters short few e =
     made (FitsMeant d) meant.Statement (statement_of d.names (length d.codes) line) m

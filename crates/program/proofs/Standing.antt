@@ -7,7 +7,7 @@ use Rattle.program_text.specs.declared.words.Number.{Number}
 use Rattle.program_text.specs.declared.words.Number.TheVariants.{Plus, Minus}
 use Rattle.program_text.specs.declared.words.SpelledOperand.{SpelledOperand}
 use Rattle.program_text.specs.declared.lines.SpelledLine.{SpelledLine}
-use Rattle.program_text.specs.declared.lines.SpelledLine.TheVariants.{Blank, Const, Word, Counter, List as NotifyList, Registers, Section, Program, Seats, Most, Apart}
+use Rattle.program_text.specs.declared.lines.SpelledLine.TheVariants.{Blank, Const, Word, Counter, List as NotifyList, Registers, Section, Program, Seats, Most, Apart, Passed}
 use Rattle.program_text.specs.declared.lines.SpelledLine.TheVariants.{Finally}
 use Rattle.program_text.specs.declared.cause.ProgramCause.{ProgramCause}
 use Rattle.program_text.specs.declared.cause.ProgramCause.TheVariants.{Range}
@@ -156,6 +156,7 @@ meant_in behind d (Seats n name) e s k few =
     (omega (arith, seated behind d e s, ap length (same_programs behind d))) (ap length (same_seats behind d)) k.few_seats few
 meant_in behind d (Most a n) e s k few = property_in d (closed_by behind group.Property d) (Most a n)
 meant_in behind d (Apart a b) e s k few = property_in d (closed_by behind group.Property d) (Apart a b)
+meant_in behind d (Passed a n) e s k few = property_in d (closed_by behind group.Property d) (Passed a n)
 meant_in behind d (Finally w r v) e s k few = property_in d (closed_by behind group.Property d) (Finally w r v)
 meant_in behind d line e s k few =
     opened behind (group_of line) d (meant_of d.names (length d.codes) line) refl
@@ -194,6 +195,8 @@ staged_in behind d number (Most a n) e s =
     oks_any (Stands stage.Properties number (closed_by behind group.Property d)) (meant_of d.names (length d.codes) (Most a n)) (λ m. tt)
 staged_in behind d number (Apart a b) e s =
     oks_any (Stands stage.Properties number (closed_by behind group.Property d)) (meant_of d.names (length d.codes) (Apart a b)) (λ m. tt)
+staged_in behind d number (Passed a n) e s =
+    oks_any (Stands stage.Properties number (closed_by behind group.Property d)) (meant_of d.names (length d.codes) (Passed a n)) (λ m. tt)
 staged_in behind d number (Finally w r v) e s =
     oks_any (Stands stage.Properties number (closed_by behind group.Property d)) (meant_of d.names (length d.codes) (Finally w r v)) (λ m. tt)
 staged_in behind d number line e s =

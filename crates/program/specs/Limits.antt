@@ -7,7 +7,7 @@ use Rattle.program_text.specs.declared.words.SpelledOperand.TheVariants as text
 use Rattle.program_text.specs.declared.lines.SpelledLine.{SpelledLine}
 use Rattle.program_text.specs.declared.lines.SpelledLine.TheVariants.{Blank, Const, Word, Counter}
 use Rattle.program_text.specs.declared.lines.SpelledLine.TheVariants.{List as NotifyList, Registers, Section}
-use Rattle.program_text.specs.declared.lines.SpelledLine.TheVariants.{Program, Seats, Most, Apart, Finally}
+use Rattle.program_text.specs.declared.lines.SpelledLine.TheVariants.{Program, Seats, Most, Apart, Passed, Finally}
 use Rattle.program_text.specs.declared.lines.SpelledLine.TheVariants.{Label, Do}
 use Rattle.program_code.specs.declared.program.CodeLine.{CodeLine}
 use Rattle.program_text.specs.declared.cause.ProgramCause.{ProgramCause}
@@ -61,6 +61,7 @@ is_too_many d (Program name) = is_over 16 (length d.names.programs) 1
 is_too_many d (Seats k name) = is_over 16 (length d.seats) (seats_asked k)
 is_too_many d (Most s n) = is_over 16 (length d.properties) 1
 is_too_many d (Apart s t) = is_over 16 (length d.properties) 1
+is_too_many d (Passed s n) = is_over 16 (length d.properties) 1
 is_too_many d (Finally w r v) = is_over 16 (length d.properties) 1
 is_too_many d line = is_too_long d line
 

@@ -6,7 +6,7 @@ use Rattle.program_text.specs.declared.words.SpelledPlace.{SpelledPlace}
 use Rattle.program_text.specs.declared.lines.SpelledLine.{SpelledLine}
 use Rattle.program_text.specs.declared.lines.SpelledLine.TheVariants.{Blank, Const, Word, Counter}
 use Rattle.program_text.specs.declared.lines.SpelledLine.TheVariants.{List as NotifyList, Registers, Section}
-use Rattle.program_text.specs.declared.lines.SpelledLine.TheVariants.{Program, Seats, Most, Apart, Finally}
+use Rattle.program_text.specs.declared.lines.SpelledLine.TheVariants.{Program, Seats, Most, Apart, Passed, Finally}
 use Rattle.program_code.specs.declared.program.ProgramProperty.{ProgramProperty}
 use Rattle.program_code.specs.declared.program.ProgramProperty.TheVariants as property
 use Rattle.program_code.specs.declared.relation.Relation.{Relation}
@@ -18,7 +18,7 @@ use Rattle.program.specs.declared.meant.Meant.{Meant}
 use Rattle.program.specs.declared.meant.Meant.TheVariants as meant
 use Rattle.program.specs.Causes.{both, map_ok}
 use Rattle.program.specs.Names.{declared, span_of}
-use Rattle.program.specs.Parts.{number_of, count_of, some_of, length_of, fixed_of, start_of}
+use Rattle.program.specs.Parts.{number_of, count_of, passes_of, some_of, length_of, fixed_of, start_of}
 use Rattle.program.specs.Parts.{section_of, program_of, fixed_place}
 use Rattle.program.specs.Statements.{statement_of}
 
@@ -44,6 +44,8 @@ abbrev pub property_of : DeclaredNames → SpelledLine → Result ProgramPropert
 property_of names (Most s n) = map_ok (λ x. property.Most x.0 x.1) (both (section_of names s) (count_of n))
 property_of names (Apart s t) =
     map_ok (λ x. property.Apart x.0 x.1) (both (section_of names s) (section_of names t))
+property_of names (Passed s n) =
+    map_ok (λ x. property.Passed x.0 x.1) (both (section_of names s) (passes_of n))
 property_of names (Finally w r v) = finally_of names w r v
 property_of names line = Err Misplaced
 
@@ -63,5 +65,6 @@ meant_of names ended (Seats k name) =
     map_ok (λ x. meant.Seats x.0 x.1) (both (some_of k) (program_of names name))
 meant_of names ended (Most s n) = map_ok meant.Property (property_of names (Most s n))
 meant_of names ended (Apart s t) = map_ok meant.Property (property_of names (Apart s t))
+meant_of names ended (Passed s n) = map_ok meant.Property (property_of names (Passed s n))
 meant_of names ended (Finally w r v) = map_ok meant.Property (property_of names (Finally w r v))
 meant_of names ended line = map_ok meant.Statement (statement_of names ended line)

@@ -34,6 +34,11 @@ abbrev pub count_of : Number → Result ℕ ProgramCause
 count_of (Plus n) = cond (nat_lt n (2 ^ 63)) (Ok n) (Err Range)
 count_of (Minus n) = Err Range
 
+-- how many passes, from 0 to 255
+abbrev pub passes_of : Number → Result ℕ ProgramCause
+passes_of (Plus n) = cond (nat_lt 255 n) (Err Range) (Ok n)
+passes_of (Minus n) = Err Range
+
 -- how many, from 1 on
 abbrev pub some_of : Number → Result ℕ ProgramCause
 some_of (Plus n) = cond (n == 0 || nat_lt (2 ^ 63 - 1) n) (Err Range) (Ok n)

@@ -3,7 +3,7 @@ use Rattle.std.specs.Prelude.{Bool, true, false}
 use Rattle.program_text.specs.declared.lines.SpelledLine.{SpelledLine}
 use Rattle.program_text.specs.declared.lines.SpelledLine.TheVariants.{Blank, Const, Word, Counter}
 use Rattle.program_text.specs.declared.lines.SpelledLine.TheVariants.{List as NotifyList, Registers, Section}
-use Rattle.program_text.specs.declared.lines.SpelledLine.TheVariants.{Program, Seats, Most, Apart, Finally}
+use Rattle.program_text.specs.declared.lines.SpelledLine.TheVariants.{Program, Seats, Most, Apart, Passed, Finally}
 use Rattle.program.specs.declared.stage.Stage.{Stage}
 use Rattle.program.specs.declared.stage.Stage.TheVariants as stage
 use Rattle.program.specs.declared.stage.LineGroup.{LineGroup}
@@ -21,6 +21,7 @@ group_of (Program name) = group.Program
 group_of (Seats k name) = group.Seats
 group_of (Most s n) = group.Property
 group_of (Apart s t) = group.Property
+group_of (Passed s n) = group.Property
 group_of (Finally w r v) = group.Property
 group_of line = group.Statement
 

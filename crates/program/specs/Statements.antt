@@ -6,7 +6,7 @@ use Rattle.program_text.specs.declared.lines.SpelledLine.{SpelledLine}
 use Rattle.program_text.specs.declared.lines.SpelledLine.TheVariants.{Load, Store, Swap, Add, Exchange, Await}
 use Rattle.program_text.specs.declared.lines.SpelledLine.TheVariants.{Acquire, Release, Ticket, Wait, One, All}
 use Rattle.program_text.specs.declared.lines.SpelledLine.TheVariants.{Park, Unpark, Out, Let, Compute, If, Goto}
-use Rattle.program_text.specs.declared.lines.SpelledLine.TheVariants.{Label, In, Assert, Fail, Do, Return}
+use Rattle.program_text.specs.declared.lines.SpelledLine.TheVariants.{Label, In, Ask, Assert, Fail, Do, Return}
 use Rattle.program_code.specs.declared.instruction.Instruction.{Instruction}
 use Rattle.program_code.specs.declared.instruction.Instruction.TheVariants as code
 use Rattle.program_code.specs.declared.operand.Operand.{Operand}
@@ -45,6 +45,7 @@ two_of names e f = both (operand_of names e) (operand_of names f)
 abbrev pub seat_line : DeclaredNames → SpelledLine → Result Instruction ProgramCause
 seat_line names (Out s) = map_ok code.Out (section_of names s)
 seat_line names (In s) = map_ok code.In (section_of names s)
+seat_line names (Ask s) = map_ok code.Ask (section_of names s)
 seat_line names (Let r e) = map_ok (λ x. code.Let x.0 x.1) (both (register_of names r) (operand_of names e))
 seat_line names (Compute r e op f) =
     map_ok (λ x. code.Compute x.0 x.1.0 op x.1.1) (both (register_of names r) (two_of names e f))

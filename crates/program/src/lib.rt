@@ -25,7 +25,9 @@ mod statements;
 pub use codes::{code_at, code_of, first_lost, has_label, size_of};
 pub use named_program::NamedProgram;
 pub use names::{CellSpan, Cells, Constant, DeclaredNames};
-pub use parts::{count_of, fixed_of, fixed_place, length_of, number_of, some_of, start_of};
+pub use parts::{
+    count_of, fixed_of, fixed_place, length_of, number_of, passes_of, some_of, start_of,
+};
 pub use program_text::{ProgramCause, ProgramFault};
 pub use reader::read_program;
 pub use results::{both, too_if};

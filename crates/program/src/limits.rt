@@ -127,9 +127,10 @@ pub(crate) fn is_too_many<'t>(draft: &ProgramDraft<'t>, line: &SpelledLine<'t>) 
         SpelledLine::Section(_) => is_over(MOST_SECTIONS, names.sections.len(), 1),
         SpelledLine::Program(_) => is_over(MOST_PROGRAMS, names.programs.len(), 1),
         SpelledLine::Seats(count, _) => is_over(MOST_SEATS, draft.seats.len(), seats_asked(*count)),
-        SpelledLine::Most(_, _) | SpelledLine::Apart(_, _) | SpelledLine::Finally(_, _, _) => {
-            is_over(MOST_PROPERTIES, draft.properties.len(), 1)
-        }
+        SpelledLine::Most(_, _)
+        | SpelledLine::Apart(_, _)
+        | SpelledLine::Passed(_, _)
+        | SpelledLine::Finally(_, _, _) => is_over(MOST_PROPERTIES, draft.properties.len(), 1),
         _ => is_too_long(draft, line),
     }
 }

@@ -9,7 +9,9 @@ ghost use Rattle.program.specs.Statements as statements;
 
 use crate::meant::Meant;
 use crate::names::{CellSpan, DeclaredNames};
-use crate::parts::{count_of, fixed_of, fixed_place, length_of, number_of, some_of, start_of};
+use crate::parts::{
+    count_of, fixed_of, fixed_place, length_of, number_of, passes_of, some_of, start_of,
+};
 use crate::results::both;
 use crate::statements::statement_of;
 use program_code::{ProgramProperty, Relation};
@@ -61,6 +63,10 @@ fn property_of<'t>(
         SpelledLine::Apart(first, second) => {
             let (first, second) = both(names.section(first), names.section(second))?;
             Ok(ProgramProperty::Apart(first, second))
+        }
+        SpelledLine::Passed(section, passes) => {
+            let (section, passes) = both(names.section(section), passes_of(*passes))?;
+            Ok(ProgramProperty::Passed(section, passes))
         }
         SpelledLine::Finally(place, relation, value) => finally_of(names, place, *relation, value),
         _ => Err(ProgramCause::Place),
@@ -159,6 +165,7 @@ pub(crate) fn meant_of<'t>(
         SpelledLine::Seats(count, program) => seats_of(names, count, &program),
         line @ (SpelledLine::Most(_, _)
         | SpelledLine::Apart(_, _)
+        | SpelledLine::Passed(_, _)
         | SpelledLine::Finally(_, _, _)) => asked_of(names, &line),
         line => said_of(names, ended, line),
     }

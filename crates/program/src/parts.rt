@@ -12,6 +12,9 @@ use program_text::{Name, Number, ProgramCause, SpelledOperand, SpelledPlace, Spe
 /// How many members an array has at most.
 const MOST_MEMBERS: u128 = 16;
 
+/// How many times a seat may be passed at most.
+const MOST_PASSES: u128 = 255;
+
 /// Two to the power of 63.
 const HALF: u128 = 1 << 63;
 
@@ -39,6 +42,16 @@ pub fn count_of(number: Number) -> Result<u64, ProgramCause>
 {
     match number {
         Number::Plus(size) if size < HALF => Ok(size as u64),
+        Number::Plus(_) | Number::Minus(_) => Err(ProgramCause::Range),
+    }
+}
+
+/// How many passes, from 0 to 255.
+pub fn passes_of(number: Number) -> Result<u64, ProgramCause>
+    ensures { result ≡ parts.passes_of number }
+{
+    match number {
+        Number::Plus(size) if size <= MOST_PASSES => Ok(size as u64),
         Number::Plus(_) | Number::Minus(_) => Err(ProgramCause::Range),
     }
 }

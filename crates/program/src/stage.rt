@@ -48,8 +48,8 @@ impl LineGroup {
                 LineGroup::Declaration,
             SpelledLine::Program(_) => LineGroup::Program,
             SpelledLine::Seats(_, _) => LineGroup::Seats,
-            SpelledLine::Most(_, _) | SpelledLine::Apart(_, _) | SpelledLine::Finally(_, _, _) =>
-                LineGroup::Property,
+            SpelledLine::Most(_, _) | SpelledLine::Apart(_, _) => LineGroup::Property,
+            SpelledLine::Passed(_, _) | SpelledLine::Finally(_, _, _) => LineGroup::Property,
             _ => LineGroup::Statement,
         }
     }

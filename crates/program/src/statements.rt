@@ -144,6 +144,7 @@ fn seat_line<'t>(
     match line {
         SpelledLine::Out(section) => names.section(section).map(Instruction::Out),
         SpelledLine::In(section) => names.section(section).map(Instruction::In),
+        SpelledLine::Ask(section) => names.section(section).map(Instruction::Ask),
         SpelledLine::Let(register, operand) => {
             let (register, operand) = both(names.register(register), operand_of(names, operand))?;
             Ok(Instruction::Let(register, operand))

@@ -57,6 +57,7 @@ IsLine p lines (line.Compute r e op f) = (r < p.registers) × IsOperand p e × I
 IsLine p lines (line.If e rel f to) = IsOperand p e × IsOperand p f × (to ≤ lines)
 IsLine p lines (line.Goto to) = to ≤ lines
 IsLine p lines (line.In k) = k < p.sections
+IsLine p lines (line.Ask k) = k < p.sections
 IsLine p lines (line.Assert e rel f) = IsOperand p e × IsOperand p f
 IsLine p lines line.Fail = ⊤
 

@@ -47,6 +47,8 @@ pub enum Instruction {
     Goto(usize),
     /// The seat enters the section.
     In(usize),
+    /// The seat asks for the section, until it enters it.
+    Ask(usize),
     /// The seat fails unless this holds.
     Assert(Operand, Relation, Operand),
     /// The seat fails.

@@ -26,6 +26,8 @@ pub enum ProgramProperty {
     FinallyWord(usize, Relation, i64),
     /// So the counter is where each seat has ended.
     FinallyCounter(usize, Relation, i64),
+    /// While a seat asks for the section, others come into it by a step at most so many times.
+    Passed(usize, u64),
 }
 
 /// What must hold, and where the text asks for it.

@@ -15,3 +15,4 @@ mod Pieces
 mod Spare
 mod Beyond
 pub mod Exact
+pub mod Entering

@@ -84,6 +84,7 @@ module _ (h : WholeMachine) (own : Stored) (i : ℕ) (j k : List Entry) where
   call_same (line.If e rel f to) = refl
   call_same (line.Goto to) = refl
   call_same (line.In s) = refl
+  call_same (line.Ask s) = refl
   call_same (line.Assert e rel f) = refl
   call_same line.Fail = refl
 
@@ -129,6 +130,7 @@ module _ (p : Program) (few : IsFew p) (lines : ℕ) where
   fits_call n q same all (line.If e rel f to) is = tt
   fits_call n q same all (line.Goto to) is = tt
   fits_call n q same all (line.In k) is = tt
+  fits_call n q same all (line.Ask k) is = tt
   fits_call n q same all (line.Assert e rel f) is = tt
   fits_call n q same all line.Fail is = tt
 

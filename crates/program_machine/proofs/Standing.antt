@@ -117,6 +117,7 @@ module _ (p : Program) (s : ProgramWorld) (i : ℕ) where
     line_kept (line.If v rel f to) did is = none did is
     line_kept (line.Goto to) did is = none did is
     line_kept (line.In k) did is = none did is
+    line_kept (line.Ask k) did is = none did is
     line_kept (line.Assert v rel f) did is = none did is
     line_kept line.Fail did is = none did is
 
@@ -180,6 +181,7 @@ module _ (code : List CodeLine) (me : ℕ) where
   line_free s n (line.If v rel f to) free = tt
   line_free s n (line.Goto to) free = tt
   line_free s n (line.In k) free = tt
+  line_free s n (line.Ask k) free = tt
   line_free s n (line.Assert v rel f) free =
       either_free (holds rel (value me s.registers v) (value me s.registers f)) _ _ tt tt
   line_free s n line.Fail free = tt

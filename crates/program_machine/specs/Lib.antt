@@ -10,3 +10,4 @@ pub mod Moment
 pub mod Verdict
 pub mod Key
 pub mod KeyLaw
+pub mod Entered

@@ -1,6 +1,7 @@
 //! A lock program at one moment, and its steps.
 
-ghost use Rattle.std.specs.Prelude.{◌≡◌, ◌<◌, pos, length, IfOk, IfErr, OnOk, OnErr};
+ghost use Rattle.std.specs.Prelude.{◌≡◌, ◌<◌, ℕ, pos, false, length, IfOk, IfErr, OnOk, OnErr};
+ghost use Rattle.program_machine.specs.Entered.{AreEntered};
 ghost use Rattle.program_machine.specs.Moment.{IsStarted, HasMoved, IsRefusedBy};
 ghost use Rattle.program_machine.specs.Prepared.{IsPrepared};
 ghost use Rattle.program_machine.specs.Sound.{IsSound};
@@ -12,7 +13,7 @@ use crate::prepared::Prepared;
 use crate::shared::Shared;
 use crate::starting::{first_layer, first_state};
 use program_code::{CodeLine, Program};
-use program_rows::ProgramState;
+use program_rows::{MAX_SECTIONS, ProgramState};
 use program_steps::{InUse, Stand};
 use std::alloc::Global;
 use std::marker::Model;
@@ -126,6 +127,14 @@ impl<'p> ProgramMachine<'p> {
         self.shared.own.is_inside(seat, section)
     }
 
+    /// For which sections the seat asks.
+    pub fn asks(&self, seat: SeatId) -> [bool; MAX_SECTIONS]
+        requires { seat < length self.now.program.seats }
+        ensures { (k : ℕ) → each false result k ≡ (seats_of self.now.shared.own.seats seat).asks k }
+    {
+        self.shared.own.asks(seat)
+    }
+
     /// The number in the word.
     pub fn number(&self, word: usize) -> i64
         requires { word < length self.now.program.words }
@@ -150,6 +159,29 @@ impl<'p> ProgramMachine<'p> {
             Ok(()) => {
                 self.steps += 1;
                 Ok(())
+            }
+            Err(cause) => Err(cause),
+        }
+    }
+
+    /// A step of the seat, and which sections it comes into by it. A refused step changes nothing.
+    pub fn step_into(&mut self, seat: SeatId) -> Result<[bool; MAX_SECTIONS], StepRefused>
+        ensures step { OnOk result (HasMoved self.old seat self.new) }
+        ensures entered { IfOk result (λ entered.
+            AreEntered self.old.program self.old.shared seat entered) }
+        ensures err { OnErr result (self.new ≡ self.old) }
+        ensures why { IfErr result (λ cause. IsRefusedBy cause self.old seat) }
+    {
+        if self.seats() <= seat.number() as usize {
+            return Err(StepRefused::NoSuchSeat);
+        }
+        if MOST_STEPS <= self.steps {
+            return Err(StepRefused::NoMemory);
+        }
+        match self.shared.step_into(self.program, seat) {
+            Ok(entered) => {
+                self.steps += 1;
+                Ok(entered)
             }
             Err(cause) => Err(cause),
         }

@@ -39,3 +39,16 @@ module _ (p : Program) (past : List ℕ) (m : ProgramMoment) (leads : LeadsTo p 
     leads = leads;
     why = tried;
   }
+
+-- where a longer schedule is meant, too
+pub refused_longer : (p : Program) (schedule more : List ℕ) (cause : StepRefused) → IsRefusedIn p schedule cause
+    → IsRefusedIn p (schedule ++ more) cause
+refused_longer p schedule more cause is = record {
+  before = is.before;
+  seat = is.seat;
+  rest = is.rest ++ more;
+  parts = ap (λ (steps : List ℕ). steps ++ more) is.parts ∙ append_assoc is.before (is.seat ∷ is.rest) more;
+  moment = is.moment;
+  leads = is.leads;
+  why = is.why;
+}

@@ -12,7 +12,7 @@ use crate::spelling::spell_within;
 use crate::told_program::ToldProgram;
 use program_code::CodeLine;
 use program_machine::ProgramMachine;
-use program_steps::{BadKind, Stand};
+use program_steps::Stand;
 use std::alloc::{AllocError, Global};
 use std::fmt;
 use step_core::{NoMemory, Phase, Row, SeatId};
@@ -98,22 +98,25 @@ fn tell_seat(
     text.push('\n')
 }
 
-fn tell_verdict(text: &mut String, verdict: Option<BadKind>) -> Result<(), AllocError> {
+fn tell_verdict<K: fmt::Display + Drop>(
+    text: &mut String,
+    verdict: Option<K>,
+) -> Result<(), AllocError> {
     match verdict {
         Some(kind) => writeln!(text, "verdict: {kind}"),
         None => writeln!(text, "verdict: not bad"),
     }
 }
 
-/// Tells where each seat is, all words, and whether the world is bad.
+/// Tells where each seat is, all words, and how the world is bad, if it is.
 ///
 /// It is an `Err` where memory is short.
-pub fn tell_world(
+pub fn tell_world<K: fmt::Display + Drop>(
     alloc: Global,
     text: &mut String,
     told: &ToldProgram<'_>,
     machine: &ProgramMachine<'_>,
-    verdict: Option<BadKind>,
+    verdict: Option<K>,
 ) -> Result<(), NoMemory> {
     for number in 0..machine.seats() {
         if let Some(seat) = seat_at(machine, number) {

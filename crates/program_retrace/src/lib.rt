@@ -30,6 +30,6 @@ mod words;
 
 pub use ending::tell_world;
 pub use layout::Layout;
-pub use retold::{Ending, Retold, retrace};
+pub use retold::{Ending, Retold, retrace, retrace_as, retrace_round};
 pub use steps::{Steps, tell_step, tell_steps};
 pub use told_program::ToldProgram;

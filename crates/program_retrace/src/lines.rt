@@ -108,7 +108,7 @@ pub(crate) fn tell_lines(
     steps: &Steps,
     together: bool,
 ) -> Result<(), AllocError> {
-    let mut at: usize = 0;
+    let mut at: usize = steps.first;
     let mut before: &[String] = &steps.start;
     let mut rest: &[Step] = &steps.steps;
     for _ in 0..steps.len() {

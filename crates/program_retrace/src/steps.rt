@@ -15,28 +15,40 @@ use step_core::{NoMemory, SeatId, StepRefused};
 /// Steps that were run, and what the world was before the first.
 #[derive(Drop)]
 pub struct Steps {
+    /// The number of the first.
+    pub(crate) first: usize,
     /// What the world had of each part.
     pub(crate) start: Vec<String>,
     pub(crate) steps: Vec<Step>,
 }
 
 impl Steps {
-    /// No step, from the world as it is.
+    /// No step, from the world as it is: the first has this number.
     ///
     /// It is an `Err` where memory is short.
     pub fn new(
         alloc: Global,
         told: &ToldProgram<'_>,
         machine: &ProgramMachine<'_>,
+        first: usize,
     ) -> Result<Steps, NoMemory> {
         let start = told.cells(alloc, machine)?;
         let steps = Vec::new(alloc);
-        Ok(Steps { start, steps })
+        Ok(Steps {
+            first,
+            start,
+            steps,
+        })
     }
 
     /// How many they are.
     pub fn len(&self) -> usize {
         self.steps.len()
+    }
+
+    /// The number of the step behind them.
+    pub(crate) fn next_number(&self) -> usize {
+        self.first.saturating_add(self.len())
     }
 
     fn push(&mut self, step: Step) -> Result<(), AllocError> {

@@ -43,9 +43,10 @@ impl TableColumn {
     }
 }
 
-fn number_column(alloc: Global, many: usize) -> Result<TableColumn, AllocError> {
+fn number_column(alloc: Global, first: usize, many: usize) -> Result<TableColumn, AllocError> {
     let mut column = TableColumn::new(alloc, "step".to_string(alloc)?)?;
-    for at in 0..many {
+    for behind in 0..many {
+        let at = first.saturating_add(behind);
         column.push(format!(in alloc; "{at}")?)?;
     }
     Ok(column)
@@ -153,7 +154,7 @@ fn add_columns(
     machine: &ProgramMachine<'_>,
     steps: &Steps,
 ) -> Result<(), AllocError> {
-    columns.push(number_column(alloc, steps.len())?)?;
+    columns.push(number_column(alloc, steps.first, steps.len())?)?;
     add_seats(alloc, columns, told, machine, &steps.steps)?;
     add_parts(alloc, columns, told, steps)
 }

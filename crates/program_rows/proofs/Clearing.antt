@@ -17,6 +17,7 @@ use Rattle.step_rows.specs.Stored.{each}
 pub record ClearedUpTo (table : List (List Bool)) (at : Stand) (s t : Seat) (k : ℕ) : Type 0 where
   pub stand : t.stand ≡ s.stand
   pub sections : t.sections ≡ s.sections
+  pub asks : t.asks ≡ s.asks
   pub grant : t.grant ≡ s.grant
   pub count : length t.registers ≡ length s.registers
   pub done : (r : ℕ) → r < k → each (pos 0) t.registers r ≡ cond (kept_by table at r) (each (pos 0) s.registers r) (pos 0)
@@ -60,5 +61,6 @@ module _ (code : List CodeLine) (me : ℕ) (table : List (List Bool)) (is : IsTa
   gone_on = record {
     stand = cleared.stand ∙ ap (λ (s : ProgramSeat). s.stand) there;
     sections = λ k. ap (λ f. f k) (cleared.sections ∙ ap (λ (s : ProgramSeat). s.sections) there);
+    asks = λ k. ap (λ f. f k) (cleared.asks ∙ ap (λ (s : ProgramSeat). s.asks) there);
     registers = subst (λ (s : ProgramSeat). AreLeft code t.stand s.registers t.registers) there (left t.stand (sym cleared.stand));
   }

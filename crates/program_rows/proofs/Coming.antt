@@ -8,7 +8,7 @@ use Rattle.program_code.specs.declared.program.CodeLine.{CodeLine}
 use Rattle.program_steps.specs.declared.failure.Failure.TheVariants.{Endless}
 use Rattle.program_steps.specs.declared.stand.Stand.{Stand}
 use Rattle.program_steps.specs.declared.stand.Stand.TheVariants.{Before, Within, Asleep, Ended, FailedAt}
-use Rattle.program_steps.specs.Going.{advanced, advanced_from, after_line, after_line_of, endless_from, endless_at, come_from, at_line}
+use Rattle.program_steps.specs.Going.{advanced, advanced_from, after_line, after_line_of, endless_from, endless_at, come_from, at_line, ended}
 use Rattle.program_steps.specs.Reading.{makes_steps}
 use Rattle.program_steps.specs.World.{ProgramSeat}
 use Rattle.program_rows.specs.declared.seat.Seat.{Seat}
@@ -27,6 +27,7 @@ stays_there me s n (line.Compute r e op f) is = absurd cc
 stays_there me s n (line.If e rel f to) is = absurd cc
 stays_there me s n (line.Goto to) is = absurd cc
 stays_there me s n (line.In k) is = absurd cc
+stays_there me s n (line.Ask k) is = absurd cc
 stays_there me s n (line.Assert e rel f) is = absurd cc
 stays_there me s n line.Fail is = absurd cc
 stays_there me s n (line.Load w r) is = refl
@@ -90,12 +91,12 @@ module _ (code : List CodeLine) (me : ℕ) where
         next_left : 256 - k ≡ suc (256 - (k + 1))
         next_left = omega arith
 
-        pub comes_behind : slice_get code n ≡ None → record (seat_of seat) { stand = Ended } ≡ there
+        pub comes_behind : slice_get code n ≡ None → (t : ProgramSeat) → t ≡ ended (seat_of seat) → t ≡ there
         unfolding advanced
-        comes_behind at = leads (record (seat_of seat) { stand = Ended })
+        comes_behind at t is = is ∙ leads (ended (seat_of seat))
             (ap (λ left. advanced code me left (seat_of seat)) next_left
             ∙ ap (advanced code me (256 - (k + 1))) (one_line None at)
-            ∙ stays (256 - (k + 1)) (record (seat_of seat) { stand = Ended }) refl)
+            ∙ stays (256 - (k + 1)) (ended (seat_of seat)) refl)
 
         pub goes_on : (l : CodeLine) → slice_get code n ≡ Some l → (next : Seat)
             → seat_of next ≡ after_line me (seat_of seat) n l.instruction → next.grant ≡ seat.grant

@@ -25,6 +25,7 @@ abbrev pub FitsFree : Instruction → Type 0
 FitsFree (line.Let r e) = FitsRegister r
 FitsFree (line.Compute r e op f) = FitsRegister r
 FitsFree (line.In k) = k < 8
+FitsFree (line.Ask k) = k < 8
 FitsFree _ = ⊤
 
 -- a line with one that is none of the layer, over n words

@@ -22,6 +22,7 @@ kept_by table _ r = false
 pub record IsClearedBy (table : List (List Bool)) (s t : ProgramSeat) : Type 0 where
   pub stand : t.stand ≡ s.stand
   pub sections : t.sections ≡ s.sections
+  pub asks : t.asks ≡ s.asks
   pub registers : (r : ℕ) → t.registers r ≡ cond (kept_by table s.stand r) (s.registers r) (pos 0)
 
 -- the seat, which stood at line n of the code, after its row

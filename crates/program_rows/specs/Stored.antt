@@ -10,11 +10,16 @@ use Rattle.step_table.specs.Core.{Core}
 -- the seat of a world
 abbrev pub seat_of : Seat → ProgramSeat
 seat_of seat =
-    record { stand = seat.stand; registers = each (pos 0) seat.registers; sections = each false seat.sections }
+    record {
+      stand = seat.stand;
+      registers = each (pos 0) seat.registers;
+      sections = each false seat.sections;
+      asks = each false seat.asks;
+    }
 
 -- a seat that there isn't
 abbrev pub no_seat : Seat
-no_seat = record { stand = Before 0; registers = []; sections = []; grant = 0 }
+no_seat = record { stand = Before 0; registers = []; sections = []; asks = []; grant = 0 }
 
 -- the words, who sleeps on them, and the seats
 pub record Stored : Type 0 where

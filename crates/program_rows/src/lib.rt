@@ -6,6 +6,7 @@
 //! [`LineSet`] keeps which lines a seat passed; nothing is promised of it.
 #![tactic(auto)]
 
+mod entering;
 mod going;
 mod key;
 mod line_set;

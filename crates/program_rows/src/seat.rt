@@ -1,11 +1,12 @@
-//! A seat: where it stands, its registers, and the sections that it is in.
+//! A seat: where it stands, its registers, the sections that it is in, and those that it asks for.
 //!
 //! What a line without a step does is done on the seat alone, and takes no memory.
 
-ghost use Rattle.std.specs.Prelude.{◌≡◌, ◌<◌, ◌≤◌, ◌+◌, ◌^◌, ℕ, pos, length, slice_get, Some, IfSome};
+ghost use Rattle.std.specs.Prelude.{◌≡◌, ◌<◌, ◌≤◌, ◌+◌, ◌^◌, ℕ, pos, true, length, slice_get, Some, IfSome};
 ghost use Rattle.program_steps.specs.Reading.{value, member, place_of, makes_steps};
 ghost use Rattle.program_steps.specs.World.{new_seat};
-ghost use Rattle.program_steps.specs.Going.{with_register, with_section, after_line, come_from, endless_from};
+ghost use Rattle.program_steps.specs.Going.{at_line, with_register, with_section, with_asking, entered, ended};
+ghost use Rattle.program_steps.specs.Going.{after_line, come_from, endless_from};
 ghost use Rattle.program_rows.specs.Stored.{seat_of};
 ghost use Rattle.program_rows.specs.Fitting.{HasNumbers, FitsFree, FitsCode};
 
@@ -29,6 +30,8 @@ pub(crate) struct Seat {
     pub stand: Stand,
     pub registers: [i64; MAX_REGISTERS],
     pub sections: [bool; MAX_SECTIONS],
+    /// The sections that it asks for.
+    pub asks: [bool; MAX_SECTIONS],
     /// Above 0 where the seat was woken and hasn't seen so yet.
     pub grant: u64,
 }
@@ -44,6 +47,7 @@ pub(crate) fn makes_steps(instruction: &Instruction) -> bool
             | Instruction::If(..)
             | Instruction::Goto(_)
             | Instruction::In(_)
+            | Instruction::Ask(_)
             | Instruction::Assert(..)
             | Instruction::Fail
     )
@@ -61,7 +65,7 @@ fn member(first: usize, many: usize, index: i64) -> Option<usize>
 }
 
 impl Seat {
-    /// Before its first line, with all registers 0 and in no section.
+    /// Before its first line, with all registers 0, in no section and asking for none.
     pub fn new() -> Seat
         ensures seat { seat_of result ≡ new_seat }
         ensures grant { result.grant ≡ 0 }
@@ -70,6 +74,7 @@ impl Seat {
             stand: Stand::Before(0),
             registers: [0; MAX_REGISTERS],
             sections: [false; MAX_SECTIONS],
+            asks: [false; MAX_SECTIONS],
             grant: 0,
         }
     }
@@ -123,6 +128,35 @@ impl Seat {
         self.sections[section] = inside;
     }
 
+    /// The seat asks for the section, or no longer does.
+    fn ask(&mut self, section: usize, asks: bool)
+        requires { section < 8 }
+        ensures seat { seat_of self.new ≡ with_asking (seat_of self.old) section asks }
+        ensures grant { self.new.grant ≡ self.old.grant }
+    {
+        self.asks[section] = asks;
+    }
+
+    /// The seat enters the section, for which it no longer asks, and stands before that line.
+    fn come_in(&mut self, section: usize, next: usize)
+        requires { section < 8 }
+        ensures seat { seat_of self.new ≡ at_line (entered (seat_of self.old) section) next }
+        ensures grant { self.new.grant ≡ self.old.grant }
+    {
+        self.enter(section, true);
+        self.ask(section, false);
+        self.stand = Stand::Before(next);
+    }
+
+    /// The seat has ended, and asks for nothing.
+    fn end(&mut self)
+        ensures seat { seat_of self.new ≡ ended (seat_of self.old) }
+        ensures grant { self.new.grant ≡ self.old.grant }
+    {
+        self.stand = Stand::Ended;
+        self.asks = [false; MAX_SECTIONS];
+    }
+
     /// Runs the line of this number, which makes no step.
     fn advance(&mut self, me: SeatId, line: usize, instruction: &Instruction)
         requires fits { FitsFree instruction.now }
@@ -146,8 +180,9 @@ impl Seat {
                 self.stand = Stand::Before(if so { *to } else { line + 1 });
             }
             Instruction::Goto(to) => self.stand = Stand::Before(*to),
-            Instruction::In(section) => {
-                self.enter(*section, true);
+            Instruction::In(section) => self.come_in(*section, line + 1),
+            Instruction::Ask(section) => {
+                self.ask(*section, true);
                 self.stand = Stand::Before(line + 1);
             }
             Instruction::Assert(first, relation, second) => {
@@ -176,7 +211,7 @@ impl Seat {
             };
             match code.get(at) {
                 None => {
-                    self.stand = Stand::Ended;
+                    self.end();
                     return;
                 }
                 Some(next) if makes_steps(&next.instruction) => return,
@@ -198,7 +233,7 @@ impl Seat {
             return;
         };
         match code.get(at) {
-            None => self.stand = Stand::Ended,
+            None => self.end(),
             Some(next) if makes_steps(&next.instruction) => {}
             Some(_) => self.stand = Stand::FailedAt(at, Failure::Endless),
         }

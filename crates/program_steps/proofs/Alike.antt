@@ -29,7 +29,7 @@ use Rattle.program_steps.specs.Bad.{HaveEnded, HasFailedAt}
 use Rattle.program_steps.specs.Bad.{Breaks, BreaksAt, BreaksFirst, IsBadAs}
 use Rattle.program_code.specs.declared.program.Asked.{Asked}
 use Rattle.program_code.specs.declared.program.ProgramProperty.{ProgramProperty}
-use Rattle.program_code.specs.declared.program.ProgramProperty.TheVariants.{Most, Apart, FinallyWord, FinallyCounter}
+use Rattle.program_code.specs.declared.program.ProgramProperty.TheVariants.{Most, Apart, FinallyWord, FinallyCounter, Passed}
 use Rattle.program_steps.specs.AlikeWorlds.{erased, AreAlike, BehaveAlike}
 use Rattle.step_law_alike.specs.Alike.{erased_core}
 use Rattle.step_law_alike.proofs.AlikeRows.{moved_erased, turn_can}
@@ -104,6 +104,7 @@ module _ (s : ProgramWorld) (i n : ℕ) where
   line_seen c (line.If e rel f to) = refl
   line_seen c (line.Goto to) = refl
   line_seen c (line.In k) = refl
+  line_seen c (line.Ask k) = refl
   line_seen c (line.Assert e rel f) = refl
   line_seen c line.Fail = refl
 
@@ -220,7 +221,7 @@ module _ (p : Program) (i : ℕ) where
     at_seen (FailedAt n why) = refl
 
   module _ (s t : ProgramWorld) (e : AreAlike s t) where
-    same_row : seen (row_of p s i) ≡ seen (row_of p t i)
+    pub same_row : seen (row_of p s i) ≡ seen (row_of p t i)
     same_row =
         at_seen s (s.seats i).stand ∙ ap (λ (w : ProgramWorld). seen (row_of p w i)) e ∙ sym (at_seen t (t.seats i).stand)
 
@@ -231,7 +232,7 @@ module _ (p : Program) (i : ℕ) where
     pub no_row : row_of p s i ≡ None → row_of p t i ≡ None
     no_row is = none_too (row_of p s i) (row_of p t i) same_row is
 
-    some_too : (did : Did) (o r : Option Did) → seen o ≡ seen r → o ≡ Some did
+    pub some_too : (did : Did) (o r : Option Did) → seen o ≡ seen r → o ≡ Some did
         → (x : Did) × (r ≡ Some x) × (erased_did did ≡ erased_did x)
     some_too did o None same is = absurd (none-some (erased_did did) (sym same ∙ ap seen is))
     some_too did o (Some x) same is = (x, refl, same_Some _ _ (sym (ap seen is) ∙ same))
@@ -276,6 +277,7 @@ module _ (p : Program) where
   to_erased s number (Apart k j) kind is = is
   to_erased s number (FinallyWord w rel n) kind is = is
   to_erased s number (FinallyCounter c rel n) kind is = is
+  to_erased s number (Passed k n) kind is = is
 
   from_erased : (s : ProgramWorld) (number : ℕ) (property : ProgramProperty) (kind : BadKind)
       → Breaks p (erased s) number property kind → Breaks p s number property kind
@@ -283,6 +285,7 @@ module _ (p : Program) where
   from_erased s number (Apart k j) kind is = is
   from_erased s number (FinallyWord w rel n) kind is = is
   from_erased s number (FinallyCounter c rel n) kind is = is
+  from_erased s number (Passed k n) kind is = is
 
   breaks_too : (s t : ProgramWorld) → AreAlike s t → (k : ℕ) (kind : BadKind) → BreaksAt p s k kind → BreaksAt p t k kind
   breaks_too s t e k kind is =

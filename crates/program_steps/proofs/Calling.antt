@@ -110,5 +110,6 @@ module _ (p : Program) (s : ProgramWorld) (i : ℕ) where
   may_begin lines (line.If e rel f to) is = tt
   may_begin lines (line.Goto to) is = tt
   may_begin lines (line.In k) is = tt
+  may_begin lines (line.Ask k) is = tt
   may_begin lines (line.Assert e rel f) is = tt
   may_begin lines line.Fail is = tt

@@ -79,5 +79,6 @@ module _ (s : ProgramWorld) (i : ℕ) where
   fits_line (line.If e rel f to) = tt
   fits_line (line.Goto to) = tt
   fits_line (line.In k) = tt
+  fits_line (line.Ask k) = tt
   fits_line (line.Assert e rel f) = tt
   fits_line line.Fail = tt

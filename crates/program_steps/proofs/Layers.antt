@@ -90,6 +90,7 @@ module _ (s : ProgramWorld) (i : ℕ) where
   line_same n (line.If e rel f to) did is = absurd (none-some did is)
   line_same n (line.Goto to) did is = absurd (none-some did is)
   line_same n (line.In k) did is = absurd (none-some did is)
+  line_same n (line.Ask k) did is = absurd (none-some did is)
   line_same n (line.Assert e rel f) did is = absurd (none-some did is)
   line_same n line.Fail did is = absurd (none-some did is)
 

@@ -7,3 +7,5 @@ mod Fitting
 pub mod Counting
 pub mod Alike
 mod Marking
+mod MarkingEntrances
+pub mod Entering

@@ -5,7 +5,7 @@ use Rattle.program_code.specs.declared.program.CodeLine.{CodeLine}
 use Rattle.program_code.specs.declared.program.Program.{Program}
 use Rattle.program_code.specs.declared.program.ProgramProperty.{ProgramProperty}
 use Rattle.program_code.specs.declared.program.ProgramProperty.TheVariants.{Most, Apart, FinallyWord}
-use Rattle.program_code.specs.declared.program.ProgramProperty.TheVariants.{FinallyCounter}
+use Rattle.program_code.specs.declared.program.ProgramProperty.TheVariants.{FinallyCounter, Passed}
 use Rattle.program_code.specs.declared.program.Asked.{Asked}
 use Rattle.program_steps.specs.declared.failure.Failure.{Failure}
 use Rattle.program_steps.specs.declared.bad_kind.BadKind.{BadKind}
@@ -50,7 +50,7 @@ pub record FailsFirstAt (p : Program) (s : ProgramWorld) (number : ℕ) : Type 0
   pub at : HasFailedAt p s seat number
   pub first : (i number : ℕ) → i < seat → HasFailedAt p s i number → ⊥
 
--- what a line asks doesn't hold
+-- what a line asks doesn't hold in the world; that of `passed` speaks of schedules, and no world breaks it
 abbrev pub Breaks : Program → ProgramWorld → ℕ → ProgramProperty → BadKind → Type 0
 Breaks p s number (Most k n) kind = (kind ≡ Crowded number) × (n < inside s.seats k (length p.seats))
 Breaks p s number (Apart k j) kind = (kind ≡ Together number) × AreTogether p s k j
@@ -58,6 +58,7 @@ Breaks p s number (FinallyWord w rel n) kind =
     (kind ≡ Final number) × HaveEnded p s × (holds rel (s.words w) n ≡ false)
 Breaks p s number (FinallyCounter c rel n) kind =
     (kind ≡ Final number) × HaveEnded p s × (holds rel (pos (s.layer.semaphores.words.numbers c)) n ≡ false)
+Breaks p s number (Passed k n) kind = ⊥
 
 -- the order in which kinds are asked
 abbrev pub order : BadKind → ℕ

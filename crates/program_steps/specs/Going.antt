@@ -1,6 +1,6 @@
 -- How a seat goes on: from a line it runs lines without a step until it comes to one with, to the end, or
 -- fails.
-use Rattle.std.specs.Prelude.{◌≡◌, ℕ, zero, suc, ◌+◌, ℤ, Bool, true, cond, eqb, List, Option, Some}
+use Rattle.std.specs.Prelude.{◌≡◌, ℕ, zero, suc, ◌+◌, ℤ, Bool, true, false, cond, eqb, List, Option, Some}
 use Rattle.std.specs.Prelude.{None}
 use Rattle.std.specs.Prelude.{slice_get, pos}
 use Rattle.program_code.specs.declared.instruction.Instruction.{Instruction}
@@ -14,7 +14,7 @@ use Rattle.program_steps.specs.World.{ProgramSeat}
 use Rattle.program_steps.specs.Reading.{value, kept, makes_steps}
 use Rattle.program_steps.specs.InUse.{AreCleared}
 
--- the seat at another line, or with other registers, or in a section or out of it
+-- the seat at another line, or with other registers, or in a section or out of it, or asking for one or not
 abbrev pub at_line : ProgramSeat → ℕ → ProgramSeat
 at_line s n = record s { stand = Before n }
 
@@ -24,6 +24,17 @@ with_register s r n = record s { registers = kept s.registers r n }
 abbrev pub with_section : ProgramSeat → ℕ → Bool → ProgramSeat
 with_section s k inside = record s { sections = λ j. cond (eqb j k) inside (s.sections j) }
 
+abbrev pub with_asking : ProgramSeat → ℕ → Bool → ProgramSeat
+with_asking s k asks = record s { asks = λ j. cond (eqb j k) asks (s.asks j) }
+
+-- who enters a section no longer asks for it
+abbrev pub entered : ProgramSeat → ℕ → ProgramSeat
+entered s k = with_asking (with_section s k true) k false
+
+-- behind the last line a seat asks for nothing
+abbrev pub ended : ProgramSeat → ProgramSeat
+ended s = record s { stand = Ended; asks = λ k. false }
+
 -- the seat after line n, which makes no step and says this
 abbrev pub after_line : ℕ → ProgramSeat → ℕ → Instruction → ProgramSeat
 after_line me s n (line.Let r e) = at_line (with_register s (Some r) (value me s.registers e)) (n + 1)
@@ -32,7 +43,8 @@ after_line me s n (line.Compute r e op f) =
 after_line me s n (line.If e rel f to) =
     at_line s (cond (holds rel (value me s.registers e) (value me s.registers f)) to (n + 1))
 after_line me s n (line.Goto to) = at_line s to
-after_line me s n (line.In k) = at_line (with_section s k true) (n + 1)
+after_line me s n (line.In k) = at_line (entered s k) (n + 1)
+after_line me s n (line.Ask k) = at_line (with_asking s k true) (n + 1)
 after_line me s n (line.Assert e rel f) =
     cond (holds rel (value me s.registers e) (value me s.registers f)) (at_line s (n + 1))
     (record s { stand = FailedAt n Assert })
@@ -41,7 +53,7 @@ after_line me s n _ = s
 
 -- the seat one line without a step further, where it stands before one; behind the last line it has ended
 abbrev pub after_line_of : ℕ → ProgramSeat → ℕ → Option CodeLine → ProgramSeat
-after_line_of me s n None = record s { stand = Ended }
+after_line_of me s n None = ended s
 after_line_of me s n (Some l) = after_line me s n l.instruction
 
 abbrev pub advanced_from : List CodeLine → ℕ → ProgramSeat → Stand → ProgramSeat
@@ -54,7 +66,7 @@ advanced code me (suc lines) s = advanced code me lines (advanced_from code me s
 
 -- who has run so many, and stands before one more, fails there
 abbrev pub endless_at : ProgramSeat → ℕ → Option CodeLine → ProgramSeat
-endless_at s n None = record s { stand = Ended }
+endless_at s n None = ended s
 endless_at s n (Some l) = cond (makes_steps l.instruction) s (record s { stand = FailedAt n Endless })
 
 abbrev pub endless_from : List CodeLine → ProgramSeat → Stand → ProgramSeat
@@ -76,4 +88,5 @@ AreLeft code _ come left = (r : ℕ) → left r ≡ pos 0
 pub record GoesOn (code : List CodeLine) (me : ℕ) (s : ProgramSeat) (n : ℕ) (t : ProgramSeat) : Type 0 where
   pub stand : t.stand ≡ (come_from code me s n).stand
   pub sections : (k : ℕ) → t.sections k ≡ (come_from code me s n).sections k
+  pub asks : (k : ℕ) → t.asks k ≡ (come_from code me s n).asks k
   pub registers : AreLeft code t.stand (come_from code me s n).registers t.registers

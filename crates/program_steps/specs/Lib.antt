@@ -12,3 +12,5 @@ pub mod AlikeWorlds
 pub mod KindText
 pub mod Marks
 pub mod Table
+pub mod Entering
+pub mod Entrances

@@ -36,6 +36,7 @@ makes_steps (line.Compute r e op f) = false
 makes_steps (line.If e rel f to) = false
 makes_steps (line.Goto to) = false
 makes_steps (line.In s) = false
+makes_steps (line.Ask s) = false
 makes_steps (line.Assert e rel f) = false
 makes_steps line.Fail = false
 makes_steps _ = true

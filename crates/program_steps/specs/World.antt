@@ -1,5 +1,5 @@
 -- The world of a lock program: its words, the counters and lists of the sleeping layer, those who sleep on
--- words, and of each seat where it stands, its registers and its sections.
+-- words, and of each seat where it stands, its registers, its sections and what it asks for.
 use Rattle.std.specs.Prelude.{ℕ, ℤ, pos, Bool, false, List, [], length, slice_index_or, max}
 use Rattle.program_code.specs.declared.program.CodeLine.{CodeLine}
 use Rattle.program_code.specs.declared.program.Program.{Program}
@@ -9,11 +9,12 @@ use Rattle.program_steps.specs.declared.stand.Sleeper.{Sleeper}
 use Rattle.step_table.specs.Core.{CoreLayout, Core, first_core}
 use Rattle.step_table.specs.World.{root_number}
 
--- where a seat stands, what its registers hold, and the sections that it is in
+-- where a seat stands, what its registers hold, the sections that it is in, and those that it asks for
 pub record ProgramSeat : Type 0 where
   pub stand : Stand
   pub registers : ℕ → ℤ
   pub sections : ℕ → Bool
+  pub asks : ℕ → Bool
 
 -- the grants are those of who sleeps on a word; the layer has its own. What a seat stands at in the layer is
 -- what the layer says of it
@@ -41,9 +42,9 @@ layer_of p =
 abbrev pub code_of : Program → ℕ → List CodeLine
 code_of p i = slice_index_or p.codes (slice_index_or p.seats i 0) []
 
--- before the first line, with all registers 0 and in no section
+-- before the first line, with all registers 0, in no section and asking for none
 abbrev pub new_seat : ProgramSeat
-new_seat = record { stand = Before 0; registers = λ r. pos 0; sections = λ s. false }
+new_seat = record { stand = Before 0; registers = λ r. pos 0; sections = λ s. false; asks = λ s. false }
 
 -- nobody has gone on from its first line yet
 abbrev pub first_world : Program → ProgramWorld

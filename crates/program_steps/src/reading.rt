@@ -42,6 +42,7 @@ pub fn reads(register: usize, instruction: &Instruction) -> bool
         | Instruction::Out(_)
         | Instruction::Goto(_)
         | Instruction::In(_)
+        | Instruction::Ask(_)
         | Instruction::Fail => false,
     }
 }

@@ -145,6 +145,7 @@ form_of verb.Program = of (AreOne IsName) line.Program
 form_of verb.Seats = of (AreTwo IsNumberWord IsName) (λ x. line.Seats x.0 x.1)
 form_of verb.Most = of (AreTwo IsName IsNumberWord) (λ x. line.Most x.0 x.1)
 form_of verb.Apart = of (AreTwo IsName IsName) (λ x. line.Apart x.0 x.1)
+form_of verb.Passed = of (AreTwo IsName IsNumberWord) (λ x. line.Passed x.0 x.1)
 form_of verb.Finally = of (Kept (AreThree IsPlace IsRelation IsOperand) IsFinal) (λ x. line.Finally x.0 x.1 x.2)
 form_of verb.Load = of (AreTwo IsPlace IsName) (λ x. line.Load x.0 x.1)
 form_of verb.Store = of (AreTwo IsPlace IsOperand) (λ x. line.Store x.0 x.1)
@@ -165,6 +166,7 @@ form_of verb.Let = of (Either (AreFour IsName IsOperand IsOperator IsOperand) (A
 form_of verb.If = of AreJump (λ x. line.If x.0 x.1 x.2 x.3)
 form_of verb.Goto = of (AreOne IsName) line.Goto
 form_of verb.In = of (AreOne IsName) line.In
+form_of verb.Ask = of (AreOne IsName) line.Ask
 form_of verb.Assert = of (AreThree IsOperand IsRelation IsOperand) (λ x. line.Assert x.0 x.1 x.2)
 form_of verb.Fail = of AreNone (λ x. line.Fail)
 form_of verb.Do = of (AreOne IsName) line.Do
@@ -215,6 +217,7 @@ formed words (line.Counter a b) f s = ((a, b), record { place = f.0; size = f.1;
 formed words (line.Seats a b) f s = ((a, b), twos s (numbered f.0) (named f.1), refl)
 formed words (line.Most a b) f s = ((a, b), twos s (named f.0) (numbered f.1), refl)
 formed words (line.Apart a b) f s = ((a, b), twos s (named f.0) (named f.1), refl)
+formed words (line.Passed a b) f s = ((a, b), twos s (named f.0) (numbered f.1), refl)
 formed words (line.Finally a b c) f s =
     ((a, b, c), record { read = threes s (placed f.0) refl (given f.2); kept = (f.1, f.3) }, refl)
 formed words (line.Load a b) f s = ((a, b), twos s (placed f.0) (named f.1), refl)
@@ -248,6 +251,7 @@ formed words (line.All a) f s = (a, ones s (named f), refl)
 formed words (line.Out a) f s = (a, ones s (named f), refl)
 formed words (line.Goto a) f s = (a, ones s (named f), refl)
 formed words (line.In a) f s = (a, ones s (named f), refl)
+formed words (line.Ask a) f s = (a, ones s (named f), refl)
 formed words (line.Do a) f s = (a, ones s (named f), refl)
 
 -- ---- and what is read so is a line
@@ -270,6 +274,7 @@ lined verb.Counter words x r = (refl, (r.place, r.size, r.operand, r.value), r.s
 lined verb.Seats words x r = (refl, (r.first.form, r.second.form), two_texts r.words_are r.first.spelled r.second.spelled)
 lined verb.Most words x r = (refl, (r.first.form, r.second.form), two_texts r.words_are r.first.spelled r.second.spelled)
 lined verb.Apart words x r = (refl, (r.first.form, r.second.form), two_texts r.words_are r.first.spelled r.second.spelled)
+lined verb.Passed words x r = (refl, (r.first.form, r.second.form), two_texts r.words_are r.first.spelled r.second.spelled)
 lined verb.Finally words x r = (
   refl,
   (r.read.first.form, r.kept.0, r.read.third.form, r.kept.1),

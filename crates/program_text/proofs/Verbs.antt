@@ -15,11 +15,11 @@ use Rattle.program_text.specs.Verb.{verb_text, IsVerb}
 
 abbrev pub verbs : List Verb
 verbs =
-    verb.Const ∷ verb.Word ∷ verb.Counter ∷ verb.List ∷ verb.Section ∷ verb.Program ∷ verb.Seats ∷ verb.Most ∷ verb.Apart ∷ verb.Finally ∷
-    verb.Load ∷ verb.Store ∷ verb.Swap ∷ verb.Add ∷ verb.Exchange ∷ verb.Await ∷ verb.Acquire ∷ verb.Release
+    verb.Const ∷ verb.Word ∷ verb.Counter ∷ verb.List ∷ verb.Section ∷ verb.Program ∷ verb.Seats ∷ verb.Most ∷ verb.Apart ∷ verb.Passed
+    ∷ verb.Finally ∷ verb.Load ∷ verb.Store ∷ verb.Swap ∷ verb.Add ∷ verb.Exchange ∷ verb.Await ∷ verb.Acquire ∷ verb.Release
     ∷ verb.Ticket ∷ verb.Wait ∷ verb.One ∷
-    verb.All ∷ verb.Park ∷ verb.Unpark ∷ verb.Out ∷ verb.Let ∷ verb.If ∷ verb.Goto ∷ verb.In ∷ verb.Assert
-    ∷ verb.Fail ∷ verb.Do ∷ verb.Return ∷ []
+    verb.All ∷ verb.Park ∷ verb.Unpark ∷ verb.Out ∷ verb.Let ∷ verb.If ∷ verb.Goto ∷ verb.In ∷ verb.Ask
+    ∷ verb.Assert ∷ verb.Fail ∷ verb.Do ∷ verb.Return ∷ []
 
 -- which verb the text spells
 index : List ℕ → List Verb → ℕ
@@ -28,7 +28,7 @@ index text (v ∷ vs) = cond (bytes_eq text (verb_text v)) 0 (suc (index text vs
 
 -- a verb stands where its own spelling leads, and there is no colon in it
 known : (v : Verb)
-    → (ltb (index (verb_text v) verbs) 33 ≡ true) × (get_or verbs (index (verb_text v) verbs) verb.Const ≡ v) × (has 58 (verb_text v) ≡ false)
+    → (ltb (index (verb_text v) verbs) 35 ≡ true) × (get_or verbs (index (verb_text v) verbs) verb.Const ≡ v) × (has 58 (verb_text v) ≡ false)
 unfolding index
 known verb.Const = (refl, refl, refl)
 known v = (refl, refl, refl)
@@ -36,11 +36,11 @@ known v = (refl, refl, refl)
 rank : Verb → ℕ
 rank v = index (verb_text v) verbs
 
-below : (v : Verb) → rank v < 33
+below : (v : Verb) → rank v < 35
 unfolding rank
-below v = ltb-true (index (verb_text v) verbs) 33 (known v).0
+below v = ltb-true (index (verb_text v) verbs) 35 (known v).0
 
-past_register : index (codes "register") verbs ≡ 33
+past_register : index (codes "register") verbs ≡ 35
 unfolding index
 past_register = refl
 
@@ -52,7 +52,7 @@ pub no_register : (v : Verb) → codes "register" ≡ verb_text v → ⊥
 unfolding rank
 no_register v e =
     let same : index (codes "register") verbs ≡ index (verb_text v) verbs = ap (λ (t : List ℕ). index t verbs) e in
-    let past : index (codes "register") verbs ≡ 33 = past_register in
+    let past : index (codes "register") verbs ≡ 35 = past_register in
     omega (arith, below v)
 
 pub no_colon : (name : List ℕ) (v : Verb) → name ++ codes ":" ≡ verb_text v → ⊥

@@ -12,11 +12,11 @@ use Rattle.program_text.specs.declared.lines.SpelledShare.TheVariants as share
 use Rattle.program_text.specs.declared.lines.SpelledLine.{SpelledLine}
 use Rattle.program_text.specs.declared.lines.SpelledLine.TheVariants.{Blank, Const, Word, Counter}
 use Rattle.program_text.specs.declared.lines.SpelledLine.TheVariants.{List as NotifyList, Registers, Section}
-use Rattle.program_text.specs.declared.lines.SpelledLine.TheVariants.{Program, Seats, Most, Apart, Finally}
+use Rattle.program_text.specs.declared.lines.SpelledLine.TheVariants.{Program, Seats, Most, Apart, Passed, Finally}
 use Rattle.program_text.specs.declared.lines.SpelledLine.TheVariants.{Load, Store, Swap, Add, Exchange, Await}
 use Rattle.program_text.specs.declared.lines.SpelledLine.TheVariants.{Acquire, Release, Ticket, Wait, One, All}
 use Rattle.program_text.specs.declared.lines.SpelledLine.TheVariants.{Park, Unpark, Out, Let, Compute, If, Goto}
-use Rattle.program_text.specs.declared.lines.SpelledLine.TheVariants.{Label, In, Assert, Fail, Do, Return}
+use Rattle.program_text.specs.declared.lines.SpelledLine.TheVariants.{Label, In, Ask, Assert, Fail, Do, Return}
 use Rattle.program_text.specs.Verb.{verb_text}
 use Rattle.program_text.specs.Words.{IsNameText, number_text, HasNumberForm, operand_text, HasOperandForm}
 use Rattle.program_text.specs.Words.{place_text, HasPlaceForm, without_comment}
@@ -80,6 +80,7 @@ verb_of (Program name) = Some verb.Program
 verb_of (Seats k name) = Some verb.Seats
 verb_of (Most s n) = Some verb.Most
 verb_of (Apart s t) = Some verb.Apart
+verb_of (Passed s n) = Some verb.Passed
 verb_of (Finally w r v) = Some verb.Finally
 verb_of (Load w name) = Some verb.Load
 verb_of (Store w e) = Some verb.Store
@@ -101,6 +102,7 @@ verb_of (Compute r e o f) = Some verb.Let
 verb_of (If e r f a) = Some verb.If
 verb_of (Goto a) = Some verb.Goto
 verb_of (In s) = Some verb.In
+verb_of (Ask s) = Some verb.Ask
 verb_of (Assert e r f) = Some verb.Assert
 verb_of Fail = Some verb.Fail
 verb_of (Do p) = Some verb.Do
@@ -120,6 +122,7 @@ arguments_of (Program name) = name ∷ []
 arguments_of (Seats k name) = number_text k ∷ name ∷ []
 arguments_of (Most s n) = s ∷ number_text n ∷ []
 arguments_of (Apart s t) = s ∷ t ∷ []
+arguments_of (Passed s n) = s ∷ number_text n ∷ []
 arguments_of (Finally w r v) = place_text w ∷ relation_text r ∷ operand_text v ∷ []
 arguments_of (Load w name) = place_text w ∷ name ∷ []
 arguments_of (Store w e) = place_text w ∷ operand_text e ∷ []
@@ -141,6 +144,7 @@ arguments_of (Compute r e o f) = r ∷ operand_text e ∷ operator_text o ∷ op
 arguments_of (If e r f a) = operand_text e ∷ relation_text r ∷ operand_text f ∷ codes "goto" ∷ a ∷ []
 arguments_of (Goto a) = a ∷ []
 arguments_of (In s) = s ∷ []
+arguments_of (Ask s) = s ∷ []
 arguments_of (Assert e r f) = operand_text e ∷ relation_text r ∷ operand_text f ∷ []
 arguments_of Fail = []
 arguments_of (Do p) = p ∷ []
@@ -168,6 +172,7 @@ HasForm (Program name) = IsNameText name
 HasForm (Seats k name) = HasNumberForm k × IsNameText name
 HasForm (Most s n) = IsNameText s × HasNumberForm n
 HasForm (Apart s t) = IsNameText s × IsNameText t
+HasForm (Passed s n) = IsNameText s × HasNumberForm n
 HasForm (Finally w r v) =
     HasPlaceForm w × (is_fixed_index w.index ≡ true) × HasOperandForm v × (is_fixed v ≡ true)
 HasForm (Load w name) = HasPlaceForm w × IsNameText name
@@ -190,6 +195,7 @@ HasForm (Compute r e o f) = IsNameText r × HasOperandForm e × HasOperandForm f
 HasForm (If e r f a) = HasOperandForm e × HasOperandForm f × IsNameText a
 HasForm (Goto a) = IsNameText a
 HasForm (In s) = IsNameText s
+HasForm (Ask s) = IsNameText s
 HasForm (Assert e r f) = HasOperandForm e × HasOperandForm f
 HasForm Fail = ⊤
 HasForm (Do p) = IsNameText p

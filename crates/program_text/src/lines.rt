@@ -40,6 +40,8 @@ pub enum SpelledLine<'t> {
     Most(Name<'t>, Number),
     /// No seats are in both sections.
     Apart(Name<'t>, Name<'t>),
+    /// While a seat asks for the section, others come into it at most so many times.
+    Passed(Name<'t>, Number),
     /// So it is where each seat has ended.
     Finally(SpelledPlace<'t>, Relation, SpelledOperand<'t>),
     /// The register is the word.
@@ -84,6 +86,8 @@ pub enum SpelledLine<'t> {
     Label(Name<'t>),
     /// The seat enters the section.
     In(Name<'t>),
+    /// The seat asks for the section, until it enters it.
+    Ask(Name<'t>),
     /// The seat fails unless this holds.
     Assert(SpelledOperand<'t>, Relation, SpelledOperand<'t>),
     /// The seat fails.

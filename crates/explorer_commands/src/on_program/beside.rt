@@ -28,7 +28,8 @@ fn asks_at_end(program: &Program) -> bool {
         .iter()
         .any(|asked| match asked.property {
             ProgramProperty::FinallyWord(..) | ProgramProperty::FinallyCounter(..) => true,
-            ProgramProperty::Most(..) | ProgramProperty::Apart(..) => false,
+            ProgramProperty::Most(..) | ProgramProperty::Apart(..) | ProgramProperty::Passed(..) =>
+                false,
         })
 }
 

@@ -6,11 +6,13 @@ ghost use Rattle.explorer_commands.specs.ProgramCommands.{RepliesOnProgram, Repl
 use crate::on_program::reading::{ReadText, Unread, read_text};
 use crate::on_program::refusal::refused;
 use crate::on_program::retracing::retraced;
-use crate::on_program::trying::{Search, tried};
+use crate::on_program::searched::Search;
+use crate::on_program::trying::tried;
 use explorer_answers::{
     Answered, IoFault, MOST_READ, Reply, Sink, Source, StopWatch, read_at_most, tell_reply,
 };
 use program_retrace::Layout;
+use program_search::Aims;
 use search::Team;
 use std::alloc::Global;
 use std::thread::Threads;
@@ -19,9 +21,10 @@ use waiters::NoMemory;
 /// A command that reads the text of a lock program.
 #[derive(Clone, Copy, Debug)]
 pub enum ProgramCommand<'w> {
-    /// Searches all schedules, among so many worlds at most.
+    /// Searches all schedules, among so many worlds at most; where nothing is bad, for what is asked.
     Try {
         worlds: u32,
+        aims: Aims,
         /// How the schedule that is found is told.
         layout: Layout,
         /// Beside the answer it is told how far the search came, and how long it took.
@@ -48,17 +51,19 @@ impl ProgramCommand<'_> {
         watch: &mut V,
     ) -> Result<Reply, NoMemory>
         ensures { IfOk result (λ reply.
-            RepliesToProgram self.now read.now.program (string_bytes reply.answer.text) reply.answer.exit) }
+            RepliesToProgram self.now read.now.names read.now.program (string_bytes reply.answer.text) reply.answer.exit) }
     {
         match *self {
             ProgramCommand::Try {
                 worlds,
+                aims,
                 layout,
                 counted,
                 ..
             } => {
                 let search = Search {
                     worlds,
+                    aims,
                     layout,
                     counted,
                 };

@@ -11,7 +11,7 @@ struct Form {
 }
 
 /// All lines but labels, in the order in which a text has them.
-static FORMS: [Form; 34] = [
+static FORMS: [Form; 36] = [
     Form {
         word: "const",
         spelled: "const N V",
@@ -97,6 +97,10 @@ static FORMS: [Form; 34] = [
         spelled: "unpark W e",
     },
     Form {
+        word: "ask",
+        spelled: "ask S",
+    },
+    Form {
         word: "in",
         spelled: "in S",
     },
@@ -143,6 +147,10 @@ static FORMS: [Form; 34] = [
     Form {
         word: "apart",
         spelled: "apart S T",
+    },
+    Form {
+        word: "passed",
+        spelled: "passed S N",
     },
     Form {
         word: "finally",

@@ -68,8 +68,8 @@ impl fmt::Display for Problem<'_> {
             Problem::NoForm(line) => write!(
                 f,
                 "no line begins as \"{line}\": const, word, counter, list, register, section, program, seats, most, apart, \
-                 finally, a label with a colon, or in a program load, store, swap, add, exchange, await, acquire, release, ticket, \
-                 wait, one, all, park, unpark, in, out, let, if, goto, assert, fail, do, return"
+                 passed, finally, a label with a colon, or in a program load, store, swap, add, exchange, await, acquire, release, ticket, \
+                 wait, one, all, park, unpark, ask, in, out, let, if, goto, assert, fail, do, return"
             ),
             Problem::Scenario(line) => write!(
                 f,
@@ -78,7 +78,7 @@ impl fmt::Display for Problem<'_> {
             Problem::Misplaced(line) => write!(
                 f,
                 "\"{line}\" can't stand here: const, word, counter, list, register and section lines come first, then programs \
-                 with their lines, then seats, and most, apart and finally last"
+                 with their lines, then seats, and most, apart, passed and finally last"
             ),
             Problem::OutOfRange(line) => write!(
                 f,

@@ -7,6 +7,7 @@ pub(crate) fn range_of(first: &str) -> &'static str {
         "counter" => "a counter starts at 0 to 4294967295, and an array has 1 to 16 members",
         "seats" => "seats are 1 or more",
         "most" => "most is 0 or more",
+        "passed" => "passed is 0 to 255",
         "finally" => "an index is within its array, and a number -2^63 to 2^63 - 1",
         _ => "numbers are -2^63 to 2^63 - 1",
     }
@@ -23,7 +24,7 @@ pub(crate) fn most_of(first: &str) -> &'static str {
         "section" => "at most 8 sections",
         "program" => "at most 16 programs",
         "seats" => "at most 16 seats",
-        "most" | "apart" | "finally" => "at most 16 properties",
+        "most" | "apart" | "passed" | "finally" => "at most 16 properties",
         _ => "at most 128 lines of a program, 255 with those of do",
     }
 }

@@ -56,7 +56,7 @@ impl From<NoMemory> for Unread {
 /// The program that the input says, if it isn't too long and its text isn't faulty.
 pub(crate) fn read_text<'t>(alloc: Global, input: &'t [u8]) -> Result<ReadText<'t>, Unread>
     ensures short { IfOk result (λ _. length input.now ≤ 65536) }
-    ensures program { IfOk result (λ read. IsRead input.now read.program) }
+    ensures program { IfOk result (λ read. IsRead input.now read.names read.program) }
     ensures refused { IfErr result (IsUnread input.now) }
 {
     if input.len() > MAX_TEXT {

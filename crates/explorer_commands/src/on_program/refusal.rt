@@ -12,7 +12,9 @@ use std::fmt;
 use waiters::NoMemory;
 
 /// What was expected in place of a text that is no schedule.
-const NO_SCHEDULE: &str = "a schedule is numbers of seats, 0 to 99, one space apart\n";
+const NO_SCHEDULE: &str = "\
+a schedule is numbers of seats, 0 to 99, one space apart; behind it a round may stand, as (0 1)
+";
 
 /// Why a command doesn't do what its input and its words ask for.
 #[derive(Clone, Copy, Drop)]

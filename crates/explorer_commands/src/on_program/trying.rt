@@ -2,30 +2,22 @@
 
 ghost use Rattle.std.specs.Prelude.{◌≡◌, ◌++◌, [], IfOk, None, string_bytes, option_map};
 ghost use Rattle.explorer_answers.specs.CheckText.{found_in_all_schedule};
-ghost use Rattle.explorer_commands.specs.ProgramCommands.{RepliesTried, tried_text, worlds_of};
+ghost use Rattle.explorer_commands.specs.ProgramCommands.{RepliesToTry, RepliesTried, IsNothing, tried_text, worlds_of};
 ghost use Rattle.program_search.specs.Tried.{IsTried};
 
-use crate::on_program::beside::{NeverMet, beside};
+use crate::on_program::beside::NeverMet;
+use crate::on_program::looking::seen;
 use crate::on_program::reading::ReadText;
-use explorer_answers::{Answer, FoundAmong, Reply, Stats, StopWatch};
+use crate::on_program::replies::{broken_reply, dead_reply, passes_reply, starving_reply};
+use crate::on_program::searched::{Search, counted_beside};
+use explorer_answers::{Answer, FoundAmong, Reply, StopWatch};
 use program_retrace::{Layout, retrace};
-use program_search::{Ran, try_program};
+use program_search::{Outlook, Ran, try_program};
 use program_steps::BadKind;
 use search::{FoundInAll, Searched, Team};
 use std::alloc::Global;
 use std::thread::Threads;
 use waiters::{NoMemory, SeatId};
-
-/// What is asked of a search.
-#[derive(Clone, Copy)]
-pub(crate) struct Search {
-    /// How many worlds may be kept at most.
-    pub(crate) worlds: u32,
-    /// How the schedule that is found is told.
-    pub(crate) layout: Layout,
-    /// It is told how far the search came.
-    pub(crate) counted: bool,
-}
 
 /// What is told behind the answer of a search: what the schedule that it found does, if it found one.
 ///
@@ -103,8 +95,9 @@ fn found_reply(
     millis: u64,
     never_met: &NeverMet<'_>,
 ) -> Result<Reply, NoMemory>
-    requires { IsTried read.now.program search.worlds searched.now.found }
-    ensures { IfOk result (λ reply. RepliesTried search.worlds read.now.program
+    requires tried { IsTried read.now.program search.worlds searched.now.found }
+    requires alive { IsNothing read.now.program search.aims searched.now.found }
+    ensures { IfOk result (λ reply. RepliesTried search.worlds search.aims read.now.program
         (string_bytes reply.answer.text) reply.answer.exit) }
 {
     let told = FoundAmong {
@@ -113,12 +106,8 @@ fn found_reply(
         worlds: worlds_of(&searched.found),
     };
     let behind = behind(alloc, read, told.schedule(), search.layout)?;
-    let stats = Stats::of_found_in_all(searched, search.worlds, millis);
-    let aside = beside(
-        alloc,
-        told_of(&searched.found, never_met),
-        if search.counted { Some(&stats) } else { None },
-    )?;
+    let never_met = told_of(&searched.found, never_met);
+    let aside = counted_beside(alloc, search, searched, millis, never_met)?;
     let exit = told.exit();
     Ok(Reply {
         answer: Answer {
@@ -139,7 +128,7 @@ pub(crate) fn tried<T: Threads + Sync, V: StopWatch>(
     search: Search,
     watch: &mut V,
 ) -> Result<Reply, NoMemory>
-    ensures { IfOk result (λ reply. RepliesTried search.worlds read.now.program
+    ensures { IfOk result (λ reply. RepliesToTry search.worlds search.aims read.now.names read.now.program
         (string_bytes reply.answer.text) reply.answer.exit) }
 {
     let program = read.program.program();
@@ -147,5 +136,17 @@ pub(crate) fn tried<T: Threads + Sync, V: StopWatch>(
     let searched = try_program(team, alloc, &read.program, search.worlds, &ran, watch)?;
     let millis = watch.stop();
     let never_met = NeverMet::of(alloc, &ran, program, &read.names)?;
-    found_reply(alloc, read, search, &searched, millis, &never_met)
+    match seen(alloc, &read.program, search.aims, &searched.found)? {
+        Some(Outlook::DeadEnd(dead)) => dead_reply(alloc, read, search, &searched, millis, dead),
+        Some(Outlook::Starving(starving)) => {
+            starving_reply(alloc, read, search, &searched, millis, starving)
+        }
+        Some(Outlook::Broken(broken)) => {
+            broken_reply(alloc, read, search, &searched, millis, broken)
+        }
+        Some(Outlook::Alive(all)) => {
+            passes_reply(alloc, read, search, &searched, millis, &never_met, all)
+        }
+        None => found_reply(alloc, read, search, &searched, millis, &never_met),
+    }
 }

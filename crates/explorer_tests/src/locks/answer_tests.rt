@@ -2,7 +2,7 @@
 //! of many more programs is compared by `gallery`.
 
 use explorer_answers::{Answered, Exit, Flagged, NO_MEMORY};
-use explorer_commands::{Command, Layout, ProgramCommand, command_io};
+use explorer_commands::{Aims, Command, Layout, ProgramCommand, Wanted, command_io};
 use search::Team;
 use std::alloc::{AllocError, Global};
 use std::num::NonZeroU16;
@@ -37,6 +37,14 @@ most held 1
 
 const TRY: ProgramCommand<'static> = ProgramCommand::Try {
     worlds: 2_000_000,
+    aims: Aims {
+        dead_ends: Wanted {
+            no_end: false,
+            lost: false,
+        },
+        starved: false,
+        passes: false,
+    },
     layout: Layout::Lines,
     counted: false,
     live: false,

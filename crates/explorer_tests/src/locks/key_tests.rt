@@ -22,7 +22,11 @@ const LOADS: &str = "word w -1\nregister r\nprogram p\nload w r\nstore w r\nseat
 const SLEEPS: &str =
     "word w 0\nsection a\nprogram p\nin a\npark w 0\nprogram q\nunpark w 1\nseats 1 p\nseats 1 q\n";
 
-static KEYS: [Known; 6] = [
+/// One seat asks for each of two sections, and enters one.
+const ASKS: &str =
+    "word w 0\nsection a\nsection b\nprogram p\nask b\nstore w 1\nin b\nask a\nstore w 2\nseats 1 p\n";
+
+static KEYS: [Known; 9] = [
     // the word, the seat's stand, line and register, no sleeper; and the layer's seat, which does nothing
     Known {
         text: LOADS,
@@ -38,23 +42,39 @@ static KEYS: [Known; 6] = [
     Known {
         text: SLEEPS,
         schedule: &[],
-        key: &[0, 1, 1, 128, 0, 0, 0, 0, 0, 0, 0],
+        key: &[0, 2, 1, 128, 0, 0, 0, 0, 0, 0, 0],
     },
     Known {
         text: SLEEPS,
         schedule: &[0],
-        key: &[0, 9, 1, 128, 0, 0, 1, 0, 0, 0, 0, 0, 0],
+        key: &[0, 18, 1, 128, 0, 0, 1, 0, 0, 0, 0, 0, 0],
     },
     Known {
         text: SLEEPS,
         schedule: &[0, 1],
-        key: &[0, 11, 1, 1, 128, 12, 0, 0, 0, 0, 0, 0],
+        key: &[0, 22, 1, 1, 128, 24, 0, 0, 0, 0, 0, 0],
+    },
+    // it asks for its second section; it is in that and asks for its first; and it has ended, and asks for none
+    Known {
+        text: ASKS,
+        schedule: &[],
+        key: &[0, 1, 1, 64, 0, 0, 0],
+    },
+    Known {
+        text: ASKS,
+        schedule: &[0],
+        key: &[2, 3, 4, 64, 128, 0, 0, 0],
+    },
+    Known {
+        text: ASKS,
+        schedule: &[0, 0],
+        key: &[4, 26, 0, 64, 0, 0, 0],
     },
     // a unit was taken: then the counter, its waits and its root
     Known {
         text: "counter c 3\nprogram p\nacquire c\nseats 1 p\n",
         schedule: &[0, 0],
-        key: &[12, 0, 0, 2, 0, 0, 0, 0, 0],
+        key: &[24, 0, 0, 2, 0, 0, 0, 0, 0],
     },
 ];
 

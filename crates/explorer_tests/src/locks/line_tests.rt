@@ -57,6 +57,7 @@ let r r >> 3
 if r >= s goto end
 goto end
 end:
+ask held
 in held
 assert r == 0
 fail
@@ -65,6 +66,7 @@ return
 seats 3 p
 most held 1
 apart held held
+passed held 255
 finally w[0] == max
 ";
 
@@ -85,7 +87,7 @@ fn texts_have_lines(rt: HostRuntime) {
     let lock = read_twice(rt.alloc(), TEST_AND_SET.as_bytes()).expect(&rt, "a lock");
     assert_eq!(rt; lock.len(), 16);
     let each = read_twice(rt.alloc(), EACH.as_bytes()).expect(&rt, "each kind of line");
-    assert_eq!(rt; each.len(), 42);
+    assert_eq!(rt; each.len(), 44);
 }
 
 fn is_me(index: &Option<SpelledOperand<'_>>) -> bool {

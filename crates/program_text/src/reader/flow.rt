@@ -71,6 +71,16 @@ pub(crate) fn read_in<'t>(words: &[&'t str]) -> Option<SpelledLine<'t>>
     Some(SpelledLine::In(section))
 }
 
+/// A section that a seat asks for.
+pub(crate) fn read_ask<'t>(words: &[&'t str]) -> Option<SpelledLine<'t>>
+    ensures { ReadsAs (AreArgumentsOf verb.Ask (texts words.now)) result }
+{
+    let Some(section) = one::<Name<'t>>(words) else {
+        return None;
+    };
+    Some(SpelledLine::Ask(section))
+}
+
 /// What must hold, or the seat fails.
 pub(crate) fn read_assert<'t>(words: &[&'t str]) -> Option<SpelledLine<'t>>
     ensures { ReadsAs (AreArgumentsOf verb.Assert (texts words.now)) result }

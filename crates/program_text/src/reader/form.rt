@@ -12,12 +12,12 @@ use crate::reader::declaration::{
     read_const, read_counter, read_list, read_program, read_seats, read_section, read_word,
 };
 use crate::reader::flow::{
-    read_assert, read_do, read_fail, read_goto, read_if, read_in, read_let, read_return,
+    read_ask, read_assert, read_do, read_fail, read_goto, read_if, read_in, read_let, read_return,
 };
 use crate::reader::layer::{
     read_acquire, read_all, read_one, read_out, read_release, read_ticket, read_wait,
 };
-use crate::reader::property::{read_apart, read_finally, read_most};
+use crate::reader::property::{read_apart, read_finally, read_most, read_passed};
 use crate::reader::verb::Verb;
 
 /// The line that has these words behind its verb.
@@ -34,6 +34,7 @@ pub(crate) fn read_form<'t>(verb: Verb, words: &[&'t str]) -> Option<SpelledLine
         Verb::Seats => read_seats(words),
         Verb::Most => read_most(words),
         Verb::Apart => read_apart(words),
+        Verb::Passed => read_passed(words),
         Verb::Finally => read_finally(words),
         Verb::Load => read_load(words),
         Verb::Store => read_store(words),
@@ -54,6 +55,7 @@ pub(crate) fn read_form<'t>(verb: Verb, words: &[&'t str]) -> Option<SpelledLine
         Verb::If => read_if(words),
         Verb::Goto => read_goto(words),
         Verb::In => read_in(words),
+        Verb::Ask => read_ask(words),
         Verb::Assert => read_assert(words),
         Verb::Fail => read_fail(words),
         Verb::Do => read_do(words),

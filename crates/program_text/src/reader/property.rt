@@ -31,6 +31,16 @@ pub(crate) fn read_apart<'t>(words: &[&'t str]) -> Option<SpelledLine<'t>>
     Some(SpelledLine::Apart(first, second))
 }
 
+/// How many times others may come into a section that a seat asks for.
+pub(crate) fn read_passed<'t>(words: &[&'t str]) -> Option<SpelledLine<'t>>
+    ensures { ReadsAs (AreArgumentsOf verb.Passed (texts words.now)) result }
+{
+    let Some((section, passed)) = two::<Name<'t>, Number>(words) else {
+        return None;
+    };
+    Some(SpelledLine::Passed(section, passed))
+}
+
 /// What must hold where each seat has ended.
 pub(crate) fn read_finally<'t>(words: &[&'t str]) -> Option<SpelledLine<'t>>
     ensures { ReadsAs (AreArgumentsOf verb.Finally (texts words.now)) result }

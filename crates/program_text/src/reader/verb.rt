@@ -18,6 +18,7 @@ pub(crate) enum Verb {
     Seats,
     Most,
     Apart,
+    Passed,
     Finally,
     Load,
     Store,
@@ -38,6 +39,7 @@ pub(crate) enum Verb {
     If,
     Goto,
     In,
+    Ask,
     Assert,
     Fail,
     Do,
@@ -45,7 +47,7 @@ pub(crate) enum Verb {
 }
 
 /// All of them.
-static VERBS: [Verb; 33] = [
+static VERBS: [Verb; 35] = [
     Verb::Const,
     Verb::Word,
     Verb::Counter,
@@ -55,6 +57,7 @@ static VERBS: [Verb; 33] = [
     Verb::Seats,
     Verb::Most,
     Verb::Apart,
+    Verb::Passed,
     Verb::Finally,
     Verb::Load,
     Verb::Store,
@@ -75,6 +78,7 @@ static VERBS: [Verb; 33] = [
     Verb::If,
     Verb::Goto,
     Verb::In,
+    Verb::Ask,
     Verb::Assert,
     Verb::Fail,
     Verb::Do,
@@ -96,6 +100,7 @@ impl Verb {
             Verb::Seats => "seats",
             Verb::Most => "most",
             Verb::Apart => "apart",
+            Verb::Passed => "passed",
             Verb::Finally => "finally",
             Verb::Load => "load",
             Verb::Store => "store",
@@ -116,6 +121,7 @@ impl Verb {
             Verb::If => "if",
             Verb::Goto => "goto",
             Verb::In => "in",
+            Verb::Ask => "ask",
             Verb::Assert => "assert",
             Verb::Fail => "fail",
             Verb::Do => "do",

@@ -18,5 +18,6 @@ returns-in_default c =
       seats = d.not-Seats;
       most = d.not-Most;
       apart = d.not-Apart;
+      passed = d.not-Passed;
       finally = d.not-Finally;
     })

@@ -12,7 +12,7 @@ returns-in_default c = record {
 pub returns-in-None-clause-seat : goal.returns-in-None-clause-seat
 returns-in-None-clause-seat c =
     comes_behind c.args.code.now c.args.me c.args.self.now c.args.line c.loop.counter c.loop.self c.loop.invariant c.in-Before.at c.in-Before.is
-    (let t = c.loop-test.true in omega arith) (slice_get_past c.args.code.now c.in-Before.at c.in-None.ensures.lookup.3)
+    (let t = c.loop-test.true in omega arith) (slice_get_past c.args.code.now c.in-Before.at c.in-None.ensures.lookup.3) _ c.end.ensures.seat
 
 pub returns-in-Some-clause-seat : goal.returns-in-Some-clause-seat
 returns-in-Some-clause-seat c =
